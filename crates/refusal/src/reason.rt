@@ -9,6 +9,8 @@ impl Refusal {
         ensures { λ r. ⌜ now r ≡ reason-of self ⌝ }
     {
         match self {
+            Refusal::SizeOutsideLimits =>
+                "a drawing has 1 to 4096 rows and columns and at most 1048576 squares",
             Refusal::OutsideLimits => "a period, order or byte count is outside its limits",
             Refusal::TouchingEqualRanks => "two squares that touch have equal ranks",
             Refusal::PaletteLength => "a palette has 1 to 16 colours of three bytes each",

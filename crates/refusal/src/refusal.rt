@@ -4,6 +4,8 @@ ghost use Rattle.refusal.specs.Numbers.{number-of};
 
 #[derive(Clone, Copy, PartialEq, Eq, Debug)]
 pub enum Refusal {
+    // A drawing has not 1 to 4,096 rows, 1 to 4,096 columns and at most 1,048,576 squares.
+    SizeOutsideLimits,
     // A period, an order or a byte count is outside its limits.
     OutsideLimits,
     // Two squares that touch have equal ranks.
@@ -20,6 +22,7 @@ impl Refusal {
         ensures { λ r. ⌜ r ≡ number-of self ⌝ }
     {
         match self {
+            Refusal::SizeOutsideLimits => 1,
             Refusal::OutsideLimits => 16,
             Refusal::TouchingEqualRanks => 17,
             Refusal::PaletteLength => 18,

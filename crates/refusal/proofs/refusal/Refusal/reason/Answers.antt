@@ -2,6 +2,9 @@ use mathlib.Core.Path.{sym, ap}
 use Rattle.refusal.specs.Reasons.{reason-of}
 use Rattle.refusal.proofs.refusal.Refusal.reason.Needs as need
 
+pub returns-in-SizeOutsideLimits : need.returns-in-SizeOutsideLimits
+returns-in-SizeOutsideLimits c = ap reason-of (sym (c .in-SizeOutsideLimits .is))
+
 pub returns-in-OutsideLimits : need.returns-in-OutsideLimits
 returns-in-OutsideLimits c = ap reason-of (sym (c .in-OutsideLimits .is))
 

@@ -1,0 +1,9 @@
+-- The limits of a drawing's size.
+use Prim.Native.Nat.{ℕ, _*_, _≤_}
+
+pub record Within (rows columns : ℕ) : Type 0 where
+  pub tall : 1 ≤ rows
+  pub low : rows ≤ 4096
+  pub wide : 1 ≤ columns
+  pub narrow : columns ≤ 4096
+  pub small : rows * columns ≤ 1048576
