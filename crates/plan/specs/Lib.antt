@@ -1,4 +1,5 @@
 pub mod Doubling
+pub mod Either
 pub mod Knuth
 pub mod Layers
 pub mod Plane

@@ -1,6 +1,7 @@
 // Plans: a rank for each row and column, which repeats by two periods and differs between squares that touch.
 mod apart;
 mod doubling;
+mod either;
 mod knuth;
 mod laws;
 mod mirror;
@@ -12,6 +13,8 @@ mod turn;
 
 pub use doubling::Doubling;
 pub use doubling::DoublingPlan;
+pub use either::Either;
+pub use either::EitherPlan;
 pub use knuth::Knuth;
 pub use knuth::KnuthPlan;
 pub use laws::touching_modulo_periods_differ;
