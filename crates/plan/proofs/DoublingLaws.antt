@@ -9,7 +9,7 @@ use lib.ListN.{getD}
 use Rattle.plan.specs.Ranks.{Ranks, Lawful, Apart, Period}
 use Rattle.plan.specs.Doubling.{corner-rank, doubling, doubling-plan}
 use Rattle.plan.proofs.Blocks.{from-every}
-use Rattle.plan.proofs.TableLaws.{tabled-repeats, tabled-apart}
+use Rattle.plan.proofs.TableLaws.{tabled-repeats, repeating-apart}
 use Rattle.std.proofs.shelf.Tests.{leb-true, le-leb}
 
 corners : List ℕ
@@ -57,7 +57,7 @@ doubling-repeats (suc n) r c =
 
 pub doubling-apart : (n : ℕ) → Apart (doubling (suc n))
 unfolding doubling corner-rank
-doubling-apart zero r c r′ c′ touch same = tabled-apart 2 2 (0 ∷ 2 ∷ 3 ∷ 1 ∷ []) (lit≤ tt) (lit≤ tt) refl r c r′ c′ touch same
+doubling-apart zero r c r′ c′ touch same = repeating-apart corner-rank 2 2 (tabled-repeats 2 2 (0 ∷ 2 ∷ 3 ∷ 1 ∷ [])) (lit≤ tt) (lit≤ tt) refl r c r′ c′ touch same
 doubling-apart (suc n) r c r′ c′ touch same =
     let s = 2 ^ suc n in
     let low = square-below (r % (2 * s) / s) (c % (2 * s) / s) in

@@ -1,7 +1,17 @@
 // A layer that reads the plan below some rows further down and some columns further to the right.
+ghost use Prim.Native.Nat.{_≤_};
 ghost use mathlib.Core.Path.{_≡_};
-ghost use Rattle.plan.specs.Layers.{shifted};
+ghost use Rattle.plan.specs.Layers.{along, shifted};
 use crate::plan::Plan;
+
+// A row or a column so many further on, modulo the period. It is reduced before the sum, so that none is too large.
+fn further(x: usize, by: u8, period: usize) -> usize
+    requires least { ⌜ 2 ≤ period ⌝ }
+    requires most { ⌜ period ≤ 16 ⌝ }
+    ensures { λ r. ⌜ r ≡ along period by x ⌝ }
+{
+    (x % period + by as usize) % period
+}
 
 #[derive(Clone, Copy)]
 pub struct Shift<P> {
@@ -39,13 +49,9 @@ pub impl<P: Plan> Plan for Shift<P> as ShiftPlan {
         self.below.top()
     }
 
-    // Reduced before the sum, so that no row or column is too large.
     fn rank(&self, row: usize, column: usize) -> u8 {
         let p = self.below.row_period();
         let q = self.below.column_period();
-        self.below.rank(
-            (row % p + self.rows as usize) % p,
-            (column % q + self.columns as usize) % q,
-        )
+        self.below.rank(further(row, self.rows, p), further(column, self.columns, q))
     }
 }

@@ -26,7 +26,7 @@ pub impl Tone for Grey as GreyTone {
     // Zero unless 1 ≤ weight < total ≤ 12.
     fn share(self, weight: u8, total: u8) -> Grey {
         if weight == 0 || weight >= total || total > 12 {
-            return Grey { value: 0 };
+            return Grey::zero();
         }
         Grey {
             value: part(self.value, weight, total),

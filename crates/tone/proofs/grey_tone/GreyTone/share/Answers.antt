@@ -16,7 +16,7 @@ returns-then-weight-eq0 c =
     let w = c .args .weight in
     let W = c .args .total in
     let none : pos 0 ≡ share-value (e .value) w W = grind (arith, tells) in
-    same-grey (none ∙ sym (share-exact e w W))
+    c .zero .ensures ∙ same-grey (none ∙ sym (share-exact e w W))
 
 pub returns : need.returns
 returns c =
