@@ -11,13 +11,12 @@ use lib.ListN.{length, getD, set}
 use Rattle.std.proofs.shelf.Lists.{length-set, getD-set-same, getD-set-other}
 use Rattle.std.proofs.shelf.Counted.{length-map-counting}
 use Rattle.std.proofs.shelf.Tests.{cases-eq, cond-true, cond-false, eq-eqb, ne-eqb, both-ways}
-use Rattle.diffusion.specs.Neighbourhoods.{Neighbourhood, Laws}
 use Rattle.diffusion.specs.Draft.{Setting, Lawful}
 use Rattle.diffusion.specs.Sets.{every, none, add, lacking, Closed}
-use Rattle.diffusion.specs.Bands.{Bands, bands, opened, standing, fixed-in}
+use Rattle.diffusion.specs.Bands.{Bands, bands, standing, fixed-in}
 use Rattle.diffusion.specs.Sweeps.{due, visit, pass, passed, sweep, swept, due-in, visit-in, pass-in, passed-in, sweep-in, swept-in}
 use Rattle.diffusion.specs.Theorems.{Capped, Fills, Finishes, Replays}
-use Rattle.diffusion.proofs.Fixing.{add-same, add-other, closed-after}
+use Rattle.diffusion.proofs.Fixing.{add-same, add-other}
 use Rattle.diffusion.proofs.SetBands.{ready-same, bands-same, opened-is, fix-adds, standing-is}
 use Rattle.diffusion.proofs.SetSweeps.{visit-is, sweep-is, lacking-none}
 
@@ -65,6 +64,35 @@ module _ {T : Type 0} (j : Setting T) (lawful : Lawful j) (wanted : ℕ → Bool
       let m = sweep-same b F k r in
       let v = pass-same r (sweep-in j wanted b r) (sweep (j .squares) wanted F r) (m .0) (j .squares .count) (omega arith) in
       (v .0, ap₂ _+_ (m .1) (v .1))
+
+  -- a square that is fixed keeps its code
+  abbrev Keeps : Bands T → Bands T → Type 0
+  Keeps b a = (s : ℕ) → standing (b .codes) s ≡ true → getD (a .codes) s 255 ≡ getD (b .codes) s 255
+
+  standing-kept : (b a : Bands T) → Keeps b a → (s : ℕ) → standing (b .codes) s ≡ true → standing (a .codes) s ≡ true
+  standing-kept b a k s h = ap (λ c. not (eqb c 255)) (k s h) ∙ h
+
+  visit-keeps : (r : ℕ) (b a : Bands T) → Keeps b a → (n : ℕ) → Keeps b (visit-in j wanted r a n)
+  visit-keeps r b a k n s h = go (due-in j wanted r a n) refl
+    where
+      go : (x : Bool) → due-in j wanted r a n ≡ x → getD (cond x (fixed-in j n a) a .codes) s 255 ≡ getD (b .codes) s 255
+      go false e = k s h
+      go true e = getD-set-other (a .codes) n s _ 255 (λ q. both-ways (standing (a .codes) n)
+          (elim (visit-is (j .squares) wanted r (standing (a .codes)) n) [ inl v ↦ absurd (both-ways (due-in j wanted r a n) (v .0) e) | inr v ↦ v .2 ])
+          (ap (standing (a .codes)) (sym q) ∙ standing-kept b a k s h)) ∙ k s h
+
+  pass-keeps : (r : ℕ) (b a : Bands T) → Keeps b a → (n : ℕ) → Keeps b (pass-in j wanted r a n)
+  unfolding pass-in
+  pass-keeps r b a k zero = k
+  pass-keeps r b a k (suc n) = visit-keeps r b (pass-in j wanted r a n) (pass-keeps r b a k n) n
+
+  pub sweep-keeps : (b : Bands T) (r : ℕ) (s : ℕ) → standing (b .codes) s ≡ true → getD (sweep-in j wanted b r .codes) s 255 ≡ getD (b .codes) s 255
+  unfolding sweep-in
+  sweep-keeps b r = go r
+    where
+      go : (r : ℕ) → Keeps b (sweep-in j wanted b r)
+      go zero s h = refl
+      go (suc r) s h = pass-keeps r b (sweep-in j wanted b r) (go r) (j .squares .count) s h
 
   -- the bands of a set, where a visit may fix
   due-is : (r : ℕ) (F : ℕ → Bool) (s : ℕ) → s < j .squares .count → due-in j wanted r (bands j F) s ≡ due (j .squares) wanted r F s
@@ -115,6 +143,8 @@ module _ {T : Type 0} (j : Setting T) (lawful : Lawful j) (top : ℕ) (capped : 
       record {
         fixed = λ s l e. both-ways (standing (sweep-in j every b (suc top) .codes) s) (ap not (eq-eqb _ 255 e)) (k .0 .1 s l ∙ all-swept F s l);
         number = number-is b F (long, λ s l. refl);
+        kept = sweep-keeps j lawful every b (suc top);
+        length = k .0 .0;
       }
 
   pub finishes : (F : ℕ → Bool) → Closed (j .squares) F → Finishes j top F

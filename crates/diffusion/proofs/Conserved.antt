@@ -4,7 +4,6 @@ use mathlib.Core.Bool.{Bool, true, false, cond, _&&_}
 use mathlib.Core.Logic.{inl, inr}
 use Prim.Native.Nat.{ℕ, _<_}
 use lib.Dec.{eqb}
-use lib.ListN.{getD}
 use Rattle.std.specs.Options.{isSome}
 use Rattle.std.specs.declared.option.Option.{Option}
 use Rattle.std.specs.declared.option.Option.the-variants.{Some, None}
@@ -15,11 +14,11 @@ use Rattle.tone.proofs.Groups.{neutral-left, cancel}
 use Rattle.tone.proofs.Totals.{total-same, total-zero, total-sum, total-exchange, total-single}
 use Rattle.grid.specs.Directions.{opposite}
 use Rattle.quantiser.specs.Tables.{Sound}
-use Rattle.diffusion.specs.Neighbourhoods.{Neighbourhood, Laws, lower, higher, baron}
+use Rattle.diffusion.specs.Neighbourhoods.{Laws, lower, higher, baron}
 use Rattle.diffusion.specs.Draft as draft
 use Rattle.diffusion.specs.Draft.{Setting, at, gather, part, amount, code, error}
 use Rattle.diffusion.specs.Sets.{Closed}
-use Rattle.diffusion.specs.Bands.{bands, code-at, amount-at, part-in, standing}
+use Rattle.diffusion.specs.Bands.{bands, code-at, amount-at, part-in}
 use Rattle.diffusion.specs.Tallies.{all-of, output-of, loss-of, open-of, output-total, loss-total, open-total}
 use Rattle.diffusion.specs.Theorems.{Keeps-total}
 use Rattle.diffusion.proofs.Neighbours.{lower-within, higher-within}

@@ -1,7 +1,7 @@
 -- One square more of the bands of a set.
 use mathlib.Core.Path.{_≡_, refl, sym, ap, ap₂, _∙_}
 use mathlib.Core.Bool.{Bool, true, false, cond, _||_}
-use mathlib.Core.List.{List, [], _∷_, map}
+use mathlib.Core.List.{map}
 use mathlib.Core.Logic.{inl, inr}
 use Prim.Native.Nat.{ℕ, _<_}
 use native.Mathlib.Omega.{arith}
@@ -13,7 +13,7 @@ use Rattle.std.specs.declared.option.Option.the-variants.{Some, None}
 use Rattle.std.proofs.shelf.Tests.{eq-eqb, ne-eqb, cases-eq, cond-true, cond-false, both-ways, or-right}
 use Rattle.std.proofs.shelf.Lists.{length-set, getD-set-same, getD-set-other}
 use Rattle.std.proofs.shelf.Counted.{length-map-counting, getD-map-counting, fill-by-all}
-use Rattle.tone.specs.Algebra.{Algebra, Lawful}
+use Rattle.tone.specs.Algebra.{Lawful}
 use Rattle.tone.specs.Sums.{total}
 use Rattle.tone.proofs.Groups.{neutral-left}
 use Rattle.tone.proofs.Totals.{total-same, total-zero, total-sum}

@@ -10,16 +10,19 @@ use Rattle.std.specs.declared.option.Option.{Option}
 use Rattle.std.specs.declared.option.Option.the-variants.{Some, None}
 use Rattle.std.proofs.shelf.Tests.{cond-true, lt-ltb, ltb-true, and-from}
 use Rattle.std.proofs.shelf.Bits.{div-add-mod', mul-add-lt, div-mul-add, mod-mul-add, div-below, mod-below}
+use Rattle.tone.specs.Algebra.{Algebra}
+use Rattle.tone.specs.Algebra as tones
 use Rattle.plan.specs.Ranks.{Ranks, Touch}
 use Rattle.plan.specs.Ranks as plans
+use Rattle.quantiser.specs.Tables.{Tables, Sound}
 use Rattle.grid.specs.declared.direction.Step.{Step}
 use Rattle.grid.specs.declared.direction.Step.the-variants.{Back, Stay, Ahead}
 use Rattle.grid.specs.Directions.{opposite, down, across}
 use Rattle.grid.specs.Lines.{Line, plain, step}
 use Rattle.grid.specs.Neighbours.{both, neighbour}
-use Rattle.diffusion.specs.Neighbourhoods.{Neighbourhood, Laws}
-use Rattle.diffusion.specs.Drawings.{laid-out, plain-drawing}
-use Rattle.diffusion.specs.Theorems.{Lays-out}
+use Rattle.diffusion.specs.Neighbourhoods.{Laws}
+use Rattle.diffusion.specs.Drawings.{laid-out}
+use Rattle.diffusion.specs.Theorems.{Lays-out, Lawful-drawing}
 
 -- each of eight directions
 by-eight : (P : ℕ → Type 0) → P 0 → P 1 → P 2 → P 3 → P 4 → P 5 → P 6 → P 7 → (d : ℕ) → d < 8 → P d
@@ -169,4 +172,11 @@ lays-out rows columns plan lawful = record {
   laws = laid-out-laws (plain rows) (plain columns) (plain-laws rows) (plain-laws columns) plan (λ d r c r′ c′ ld lr lc hr hc.
       lawful .apart r c r′ c′ (touching r c r′ c′ d ld (plain-stepped rows (down d) r r′ lr hr .0) (plain-stepped columns (across d) c c′ lc hc .0)));
   capped = λ s l. lawful .capped (s / columns) (s % columns);
+}
+
+pub lawful-drawing : {T : Type 0} (tone : Algebra T) → tones.Lawful tone → (plan : Ranks) → plans.Lawful plan → (tables : Tables T) → Sound tone tables
+    → Lawful-drawing tone plan tables
+lawful-drawing tone tl plan pl tables sound = record {
+  lawful = λ rows columns drawing. record { tone = tl; squares = lays-out rows columns plan pl .laws; tables = sound };
+  capped = λ rows columns drawing. lays-out rows columns plan pl .capped;
 }

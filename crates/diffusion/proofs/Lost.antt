@@ -15,7 +15,7 @@ use Rattle.tone.proofs.Groups.{neutral-left, sum-append}
 use Rattle.diffusion.specs.Neighbourhoods.{Neighbourhood, baron}
 use Rattle.diffusion.specs.Draft.{Setting, Lawful, error}
 use Rattle.diffusion.specs.Bands.{bands, amounts}
-use Rattle.diffusion.specs.Tallies.{lost, all-of, loss-of, loss-places, loss-errors}
+use Rattle.diffusion.specs.Tallies.{lost, loss-places, loss-errors}
 use Rattle.diffusion.specs.Theorems.{Lists-losses}
 use Rattle.diffusion.proofs.Fixing.{amount-fixed}
 use Rattle.diffusion.proofs.SetBands.{amount-read, standing-is}

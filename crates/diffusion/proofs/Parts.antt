@@ -8,14 +8,15 @@ use lib.Dec.{eqb}
 use Rattle.std.specs.Options.{isSome}
 use Rattle.std.specs.declared.option.Option.{Option}
 use Rattle.std.specs.declared.option.Option.the-variants.{Some, None}
-use Rattle.std.proofs.shelf.Tests.{cases-eq, cases-bool, cond-true, cond-false, eq-eqb, ne-eqb, eqb-true, eqb-false, both-ways}
+use Rattle.std.proofs.shelf.Tests.{cases-eq, cases-lt, cases-bool, cond-true, cond-false, eq-eqb, ne-eqb, eqb-true, eqb-false, both-ways}
 use Rattle.tone.specs.Algebra.{Algebra, Lawful}
 use Rattle.tone.specs.Sums.{total}
 use Rattle.tone.proofs.Groups.{neutral-left}
 use Rattle.tone.proofs.Totals.{total-same, total-zero, total-sum, total-single}
-use Rattle.diffusion.specs.Neighbourhoods.{Neighbourhood, higher, last, baron}
+use Rattle.grid.specs.Directions.{weight}
+use Rattle.diffusion.specs.Neighbourhoods.{Neighbourhood, higher, weights, last, baron}
 use Rattle.diffusion.specs.Draft.{shared, shared-before, sends}
-use Rattle.diffusion.specs.Theorems.{Adds-up}
+use Rattle.diffusion.specs.Theorems.{Adds-up, Shares-out}
 
 module _ (squares : Neighbourhood) (s : ℕ) where
   -- the last direction, or none
@@ -88,3 +89,65 @@ adds-up tone lawful squares s e = record {
     present : (o : Option ℕ) → isSome o ≡ true → (t : ℕ) × (o ≡ Some t)
     present None h = absurd (both-ways false refl h)
     present (Some t) h = (t, refl)
+
+-- there is no higher neighbour after the last
+last-past : (squares : Neighbourhood) (s n i : ℕ) → n ≤ 8 → last squares s n < i → i < n → isSome (higher squares s i) ≡ false
+unfolding last
+last-past squares s ℕ.zero i h l m = absurd (omega arith)
+last-past squares s (suc n) i h l m = elim (cases-bool (isSome (higher squares s n))) [
+  | inl e ↦
+      let now : cond (isSome (higher squares s n)) n (last squares s n) ≡ n = cond-true _ _ _ e in
+      absurd (omega (arith, rw now at l))
+  | inr e ↦
+      let now : cond (isSome (higher squares s n)) n (last squares s n) ≡ last squares s n = cond-false _ _ _ e in
+      let before : last squares s n < i = rw now at l in
+      elim (cases-eq i n) [
+        | inl q ↦ ap (λ k. isSome (higher squares s k)) q ∙ e
+        | inr ne ↦ last-past squares s n i (omega arith) before (omega arith)
+      ]
+]
+
+-- nor is a higher neighbour after the last
+not-after : (squares : Neighbourhood) (s d t : ℕ) → d < 8 → higher squares s d ≡ Some t → d ≤ last squares s 8
+not-after squares s d t l h = elim (cases-lt (last squares s 8) d) [
+  | inl past ↦ absurd (both-ways (isSome (higher squares s d)) (last-past squares s 8 d (omega arith) past l) (ap isSome h))
+  | inr le ↦ le
+]
+
+module _ {T : Type 0} (tone : Algebra T) (squares : Neighbourhood) (s : ℕ) (e : T) where
+  sends-share : (d t i u : ℕ) → d < i → i < 8 → higher squares s d ≡ Some t → higher squares s i ≡ Some u
+      → sends tone squares s e d ≡ tone .share e (weight d) (weights squares s 8)
+  unfolding sends
+  sends-share d t i u l li h k =
+      let le = not-after squares s i u li k in
+      cond-false (eqb d (last squares s 8)) _ _ (ne-eqb d (last squares s 8) (λ q. omega arith)) ∙ cond-true (isSome (higher squares s d)) _ _ (ap isSome h)
+
+  -- the direction with no higher neighbour after it is the last
+  is-last : (d t : ℕ) → d < 8 → higher squares s d ≡ Some t → ((i : ℕ) → d < i → i < 8 → higher squares s i ≡ None) → d ≡ last squares s 8
+  is-last d t l h none = elim (last-is squares s 8 (omega arith)) [
+    | inl k ↦ absurd (both-ways (isSome (higher squares s d)) (k .1 d l) (ap isSome h))
+    | inr k ↦
+        let le = not-after squares s d t l h in
+        elim (cases-lt d (last squares s 8)) [
+          | inl lt ↦ absurd (both-ways (isSome (higher squares s (last squares s 8))) (ap isSome (none (last squares s 8) lt (k .0))) (k .1))
+          | inr ge ↦ omega arith
+        ]
+  ]
+
+  sends-rest : (d t : ℕ) → d < 8 → higher squares s d ≡ Some t → ((i : ℕ) → d < i → i < 8 → higher squares s i ≡ None)
+      → sends tone squares s e d ≡ tone .difference e (total tone (λ i. cond (eqb i d) (tone .zero) (sends tone squares s e i)) 8)
+  unfolding sends
+  sends-rest d t l h none =
+      let is = is-last d t l h none in
+      let rest : T = tone .difference e (total tone (shared-before tone squares s e) 8) in
+      cond-true (eqb d (last squares s 8)) _ _ (eq-eqb d (last squares s 8) is)
+      ∙ ap (tone .difference e) (total-same tone _ _ 8 (λ i li.
+      again (eqb i (last squares s 8)) rest (shared tone squares s e i)
+      ∙ ap (λ m. cond (eqb i m) (tone .zero) (cond (eqb i (last squares s 8)) rest (shared tone squares s e i))) (sym is)))
+    where
+      again : (b : Bool) (x y : T) → cond b (tone .zero) y ≡ cond b (tone .zero) (cond b x y)
+      again true x y = refl
+      again false x y = refl
+
+  pub shares-out : Shares-out tone squares s e
+  shares-out = record { rest = sends-rest; share = sends-share }

@@ -1,6 +1,6 @@
 -- Among open squares, one of the lowest rank is ready.
 use mathlib.Core.Path.{_≡_, refl, sym, ap, _∙_}
-use mathlib.Core.Bool.{Bool, true, false}
+use mathlib.Core.Bool.{Bool, true, false, false≢true}
 use mathlib.Core.Logic.{inl, inr, _⊎_}
 use Prim.Native.Nat.{ℕ, suc, _<_, _≤_}
 use native.Mathlib.Omega.{arith}
@@ -9,6 +9,7 @@ use Rattle.std.specs.declared.option.Option.the-variants.{Some, None}
 use Rattle.std.proofs.shelf.Tests.{cases-eq}
 use Rattle.diffusion.specs.Neighbourhoods.{Neighbourhood, Laws, lower}
 use Rattle.diffusion.specs.Sets.{Ready, Fixable}
+use Rattle.diffusion.specs.Theorems.{Closed-ends}
 use Rattle.diffusion.proofs.Neighbours.{lower-near, lower-within}
 
 module _ (squares : Neighbourhood) (F : ℕ → Bool) (s : ℕ) where
@@ -53,3 +54,6 @@ module _ (squares : Neighbourhood) (laws : Laws squares) (F : ℕ → Bool) wher
 
   pub some-ready : (s : ℕ) → s < squares .count → F s ≡ false → (t : ℕ) × Fixable squares F t × (squares .rank t ≤ squares .rank s)
   some-ready s l lacks = descend (suc (squares .rank s)) s (omega arith) l lacks
+
+pub closed-ends : (squares : Neighbourhood) → Closed-ends squares
+closed-ends squares = record { first = λ s d t l ld h e. absurd (false≢true h); last = λ s d t l ld h e. refl }

@@ -12,12 +12,11 @@ use Rattle.std.specs.declared.option.Option.{Option}
 use Rattle.std.specs.declared.option.Option.the-variants.{Some, None}
 use Rattle.std.proofs.shelf.Tests.{cases-eq, cases-lt, lt-ltb, le-ltb}
 use Rattle.tone.specs.Algebra.{Algebra}
-use Rattle.tone.specs.Sums.{total}
 use Rattle.tone.proofs.Totals.{total-same}
 use Rattle.grid.specs.Directions.{opposite, weight}
-use Rattle.diffusion.specs.Neighbourhoods.{Neighbourhood, Laws, keep, lower, higher, weights, last}
+use Rattle.diffusion.specs.Neighbourhoods.{Laws, keep, lower, higher, weights, last}
 use Rattle.diffusion.specs.Draft.{Setting, at, shared, shared-before, sends, gather, left, due-amount, amount, code, error}
-use Rattle.diffusion.specs.Bands.{bands, code-at, amount-at, part-in, codes, amounts}
+use Rattle.diffusion.specs.Bands.{bands, code-at, amount-at, codes, amounts}
 use Rattle.diffusion.specs.Theorems.{Alike, Same-draft}
 use Rattle.diffusion.proofs.Neighbours.{opposite-below, lower-within}
 use Rattle.diffusion.proofs.Amounts.{at-same, recursion, unique}

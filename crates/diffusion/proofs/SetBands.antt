@@ -17,10 +17,10 @@ use Rattle.tone.proofs.Totals.{total-zero}
 use Rattle.quantiser.specs.Tables.{Sound}
 use Rattle.grid.specs.Directions.{opposite}
 use Rattle.diffusion.specs.Neighbourhoods.{Neighbourhood, Laws, lower}
-use Rattle.diffusion.specs.Draft.{Setting, Lawful, at, gather, amount, code, error, part}
+use Rattle.diffusion.specs.Draft.{Setting, Lawful, gather, amount, code, error, part}
 use Rattle.diffusion.specs.Sets.{none, add, add-all, okay, ready-by, Closed, Ready, Fixable, In-turn}
-use Rattle.diffusion.specs.Sets.In-turn.{done, next}
-use Rattle.diffusion.specs.Bands.{Bands, bands, opened, code-at, amount-at, part-in, codes, amounts, standing, fixed-by, fixed-in, fixed-all}
+use Rattle.diffusion.specs.Sets.In-turn.{next}
+use Rattle.diffusion.specs.Bands.{bands, opened, code-at, amount-at, part-in, codes, amounts, standing, fixed-by, fixed-all}
 use Rattle.diffusion.specs.Theorems.{Fixes, Follows, Orderless}
 use Rattle.diffusion.proofs.Neighbours.{lower-within}
 use Rattle.diffusion.proofs.Amounts.{gather-same}
@@ -112,6 +112,7 @@ module _ {T : Type 0} (j : Setting T) (lawful : Lawful j) where
 
   pub orderless : (F : ℕ → Bool) → Closed (j .squares) F → Orderless j F
   orderless F closed = record {
+    same = bands-same j (lawful .squares) F;
     follows = follows F closed;
     alike = λ ps qs p q same. follows F closed ps p .made ∙ bands-same j (lawful .squares) (add-all F ps) (add-all F qs) same ∙ sym (follows F closed qs q .made);
   }

@@ -13,6 +13,10 @@ use Rattle.diffusion.specs.Neighbourhoods.{Neighbourhood, baron}
 abbrev pub all-of : {T : Type 0} → Setting T → (ℕ → T) → T
 all-of j f = total (j .algebra) f (j .squares .count)
 
+-- the drawing's total
+abbrev pub drawing-total : {T : Type 0} → Setting T → T
+drawing-total j = all-of j (j .drawing)
+
 module _ {T : Type 0} (j : Setting T) (F : ℕ → Bool) where
   -- the output of a fixed square; zero for others
   abbrev pub output-of : ℕ → T
@@ -26,10 +30,8 @@ module _ {T : Type 0} (j : Setting T) (F : ℕ → Bool) where
   abbrev pub open-of : ℕ → T
   open-of s = cond (F s) (j .algebra .zero) (amount-at j F s)
 
+-- the outputs of the fixed squares, the errors of the fixed barons and the amounts of the open squares, as bands show them
 module _ {T : Type 0} (j : Setting T) (b : Bands T) where
-  abbrev pub drawing-total : T
-  drawing-total = all-of j (j .drawing)
-
   abbrev pub output-total : T
   output-total = all-of j (λ s. cond (standing (b .codes) s) (j .tables .output (getD (b .codes) s 255)) (j .algebra .zero))
 

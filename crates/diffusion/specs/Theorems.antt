@@ -3,6 +3,7 @@ use mathlib.Core.Path.{_≡_}
 use mathlib.Core.Bool.{Bool, true, false, cond}
 use mathlib.Core.List.{List, map}
 use Prim.Native.Nat.{ℕ, suc, _<_, _≤_}
+use lib.Dec.{eqb}
 use lib.ListN.{length, getD}
 use Rattle.std.specs.Options.{isSome}
 use Rattle.std.specs.shelf.Lists.{Has}
@@ -11,14 +12,15 @@ use Rattle.tone.specs.Algebra.{Algebra}
 use Rattle.tone.specs.Algebra as tones
 use Rattle.tone.specs.Sums.{sum-of, total}
 use Rattle.plan.specs.Ranks as plans
-use Rattle.quantiser.specs.Tables.{Sound}
+use Rattle.quantiser.specs.Tables.{Tables, Sound}
+use Rattle.grid.specs.Directions.{weight}
 use Rattle.diffusion.specs.Bands.{Bands, bands, opened, standing, fixed-in, fixed-all}
 use Rattle.diffusion.specs.Draft.{Setting, Lawful, due-amount, amount, code, error, sends}
-use Rattle.diffusion.specs.Drawings.{plain-drawing}
-use Rattle.diffusion.specs.Neighbourhoods.{Neighbourhood, Laws, higher, baron}
-use Rattle.diffusion.specs.Sets.{every, add, add-all, lacking, Closed, Ready, Fixable, In-turn}
+use Rattle.diffusion.specs.Drawings.{plain-drawing, setting-of}
+use Rattle.diffusion.specs.Neighbourhoods.{Neighbourhood, Laws, higher, weights, baron}
+use Rattle.diffusion.specs.Sets.{none, every, add, add-all, lacking, Closed, Fixable, In-turn}
 use Rattle.diffusion.specs.Sweeps.{sweep-in, swept-in}
-use Rattle.diffusion.specs.Tallies.{all-of, output-of, loss-of, open-of, drawing-total, output-total, loss-total, open-total, lost, loss-places, loss-errors}
+use Rattle.diffusion.specs.Tallies.{all-of, output-of, loss-of, open-of, drawing-total, output-total, loss-total, open-total, loss-places, loss-errors}
 
 -- 1. The amount of a square is the drawing's tone and the parts that its lower neighbours send it,
 abbrev pub Amount-satisfies-the-recursion : Type 0 → Type 0
@@ -46,6 +48,8 @@ pub record Follows {T : Type 0} (j : Setting T) (F : ℕ → Bool) (ps : List �
   pub closed : Closed (j .squares) (add-all F ps)
 
 pub record Orderless {T : Type 0} (j : Setting T) (F : ℕ → Bool) : Type 0 where
+  -- sets with the same squares of the drawing have the same bands
+  pub same : (G : ℕ → Bool) → ((s : ℕ) → s < j .squares .count → F s ≡ G s) → bands j F ≡ bands j G
   pub follows : (ps : List ℕ) → In-turn (j .squares) F ps → Follows j F ps
   pub alike : (ps qs : List ℕ) → In-turn (j .squares) F ps → In-turn (j .squares) F qs
       → ((s : ℕ) → s < j .squares .count → add-all F ps s ≡ add-all F qs s) → fixed-all j ps (bands j F) ≡ fixed-all j qs (bands j F)
@@ -55,7 +59,7 @@ Order-leaves-no-trace T = (j : Setting T) → Lawful j → (F : ℕ → Bool) �
 
 -- 3. The drawing's total is in the outputs of the fixed squares, the losses of the fixed barons and the amounts of the open squares,
 pub record Keeps-total {T : Type 0} (j : Setting T) (F : ℕ → Bool) : Type 0 where
-  pub kept : all-of j (j .drawing) ≡ j .algebra .sum (j .algebra .sum (all-of j (output-of j F)) (all-of j (loss-of j F))) (all-of j (open-of j F))
+  pub kept : drawing-total j ≡ j .algebra .sum (j .algebra .sum (all-of j (output-of j F)) (all-of j (loss-of j F))) (all-of j (open-of j F))
   -- and the bands show these
   pub outputs : output-total j (bands j F) ≡ all-of j (output-of j F)
   pub losses : loss-total j (bands j F) ≡ all-of j (loss-of j F)
@@ -80,6 +84,14 @@ abbrev pub Some-square-is-ready : Type 0
 Some-square-is-ready = (squares : Neighbourhood) → Laws squares → (F : ℕ → Bool) (s : ℕ) → s < squares .count → F s ≡ false
     → (t : ℕ) × Fixable squares F t × (squares .rank t ≤ squares .rank s)
 
+-- So from any closed set, such as that of no square, one can go on until every square is fixed; and then the set is closed as well.
+pub record Closed-ends (squares : Neighbourhood) : Type 0 where
+  pub first : Closed squares none
+  pub last : Closed squares every
+
+abbrev pub No-squares-and-all-squares-are-closed : Type 0
+No-squares-and-all-squares-are-closed = (squares : Neighbourhood) → Closed-ends squares
+
 -- no rank is above the top
 abbrev pub Capped : Neighbourhood → ℕ → Type 0
 Capped squares top = (s : ℕ) → s < squares .count → squares .rank s ≤ top
@@ -88,6 +100,9 @@ Capped squares top = (s : ℕ) → s < squares .count → squares .rank s ≤ to
 pub record Fills {T : Type 0} (j : Setting T) (top : ℕ) (b : Bands T) : Type 0 where
   pub fixed : (s : ℕ) → s < j .squares .count → getD (sweep-in j every b (suc top) .codes) s 255 ≡ 255 → ⊥
   pub number : swept-in j every b (suc top) ≡ lacking (standing (b .codes)) (j .squares .count)
+  -- a square that was fixed keeps its code
+  pub kept : (s : ℕ) → standing (b .codes) s ≡ true → getD (sweep-in j every b (suc top) .codes) s 255 ≡ getD (b .codes) s 255
+  pub length : length (sweep-in j every b (suc top) .codes) ≡ j .squares .count
 
 abbrev pub Sweep-fixes-every-open-square : Type 0 → Type 0
 Sweep-fixes-every-open-square T = (j : Setting T) → Lawful j → (top : ℕ) → Capped (j .squares) top
@@ -126,6 +141,16 @@ pub record Adds-up {T : Type 0} (tone : Algebra T) (squares : Neighbourhood) (s 
 abbrev pub Parts-add-up-to-the-error : Type 0 → Type 0
 Parts-add-up-to-the-error T = (tone : Algebra T) → tones.Lawful tone → (squares : Neighbourhood) (s : ℕ) (e : T) → Adds-up tone squares s e
 
+-- Of the higher neighbours the last in the order of directions receives the error less all other parts, and each other its share.
+pub record Shares-out {T : Type 0} (tone : Algebra T) (squares : Neighbourhood) (s : ℕ) (e : T) : Type 0 where
+  pub rest : (d t : ℕ) → d < 8 → higher squares s d ≡ Some t → ((i : ℕ) → d < i → i < 8 → higher squares s i ≡ None)
+      → sends tone squares s e d ≡ tone .difference e (total tone (λ i. cond (eqb i d) (tone .zero) (sends tone squares s e i)) 8)
+  pub share : (d t i u : ℕ) → d < i → i < 8 → higher squares s d ≡ Some t → higher squares s i ≡ Some u
+      → sends tone squares s e d ≡ tone .share e (weight d) (weights squares s 8)
+
+abbrev pub Last-higher-neighbour-receives-the-rest : Type 0 → Type 0
+Last-higher-neighbour-receives-the-rest T = (tone : Algebra T) (squares : Neighbourhood) (s : ℕ) (e : T) → Shares-out tone squares s e
+
 -- 8. Two settings with the same tone, the same drawing, the same neighbours, choices and outputs, and with neighbours in the same order of
 -- rank, whatever the ranks are.
 pub record Alike {T : Type 0} (j k : Setting T) : Type 0 where
@@ -154,3 +179,8 @@ pub record Lays-out (rows columns : ℕ) (plan : plans.Ranks) : Type 0 where
 
 abbrev pub Plain-drawing-keeps-the-laws : Type 0
 Plain-drawing-keeps-the-laws = (rows columns : ℕ) (plan : plans.Ranks) → plans.Lawful plan → Lays-out rows columns plan
+
+-- So every drawing under a plan and a quantiser that keep their laws is a setting that keeps its own.
+pub record Lawful-drawing {T : Type 0} (tone : Algebra T) (plan : plans.Ranks) (tables : Tables T) : Type 0 where
+  pub lawful : (rows columns : ℕ) (drawing : ℕ → T) → Lawful (setting-of tone rows columns plan tables drawing)
+  pub capped : (rows columns : ℕ) (drawing : ℕ → T) → Capped (setting-of tone rows columns plan tables drawing .squares) (plan .top)

@@ -1,5 +1,7 @@
 // The theorems that all work on a draft rests on, for every kind of tone T. Each function is the bearer of one, and computes nothing.
-ghost use Rattle.diffusion.specs.Theorems.{Amount-satisfies-the-recursion, Nothing-else-satisfies-the-recursion, Fix-adds-one-square, Order-leaves-no-trace, Total-is-kept, Losses-are-the-fixed-barons, Some-square-is-ready, Sweep-fixes-every-open-square, Sweep-finishes-a-closed-set, Replay-gives-the-bands-of-the-set, Codes-tell-the-set, Parts-add-up-to-the-error, Draft-depends-on-order-and-tables, Plain-drawing-keeps-the-laws};
+ghost use Rattle.diffusion.specs.Theorems.{Amount-satisfies-the-recursion, Nothing-else-satisfies-the-recursion, Fix-adds-one-square, Order-leaves-no-trace, Total-is-kept, Losses-are-the-fixed-barons, Some-square-is-ready, No-squares-and-all-squares-are-closed, Sweep-fixes-every-open-square, Sweep-finishes-a-closed-set, Replay-gives-the-bands-of-the-set, Codes-tell-the-set, Parts-add-up-to-the-error, Last-higher-neighbour-receives-the-rest, Draft-depends-on-order-and-tables, Plain-drawing-keeps-the-laws, Lawful-drawing};
+use plan::Plan;
+use quantiser::Quantiser;
 
 // The amount of a square is the drawing's tone and the parts that its lower neighbours send it.
 pub fn amount_satisfies_the_recursion<T>() -> u8
@@ -50,6 +52,13 @@ pub fn some_square_is_ready() -> u8
     0
 }
 
+// The set of no square is closed, and so is that of every square.
+pub fn no_squares_and_all_squares_are_closed() -> u8
+    ensures { λ _. ⌜ No-squares-and-all-squares-are-closed ⌝ }
+{
+    0
+}
+
 // A sweep of the ranks leaves no square open, whatever the bands hold, and counts those that were.
 pub fn sweep_fixes_every_open_square<T>() -> u8
     ensures { λ _. ⌜ Sweep-fixes-every-open-square T ⌝ }
@@ -85,6 +94,13 @@ pub fn parts_add_up_to_the_error<T>() -> u8
     0
 }
 
+// Of the higher neighbours the last receives the error less all other parts, and each other its share by weight.
+pub fn last_higher_neighbour_receives_the_rest<T>() -> u8
+    ensures { λ _. ⌜ Last-higher-neighbour-receives-the-rest T ⌝ }
+{
+    0
+}
+
 // A draft depends on the plan only through the order of neighbouring ranks, and on the quantiser only through its choices and outputs.
 pub fn draft_depends_on_order_and_tables<T>() -> u8
     ensures { λ _. ⌜ Draft-depends-on-order-and-tables T ⌝ }
@@ -95,6 +111,13 @@ pub fn draft_depends_on_order_and_tables<T>() -> u8
 // The squares of a plain drawing under a lawful plan keep the laws of a neighbourhood.
 pub fn plain_drawing_keeps_the_laws() -> u8
     ensures { λ _. ⌜ Plain-drawing-keeps-the-laws ⌝ }
+{
+    0
+}
+
+// Every drawing under any plan and any quantiser keeps the laws that the theorems ask for.
+pub fn every_drawing_is_lawful<P: Plan, Q: Quantiser>() -> u8
+    ensures { λ _. ⌜ ((p : P) (q : Q) → Lawful-drawing (Tone·Tone .algebra) (meaning p) (tables q)) ⌝ }
 {
     0
 }

@@ -23,7 +23,7 @@ use Rattle.grid.specs.Limits as sizes
 use Rattle.diffusion.specs.Draft.{sends, gather, amount-by, amount}
 use Rattle.diffusion.specs.Neighbourhoods.{lower, higher, weights, last}
 use Rattle.diffusion.specs.Tallies.{lost}
-use Rattle.examples.specs.Examples.{Drafted, Holds, examples}
+use Rattle.examples.specs.Examples.{Holds, examples}
 
 largest : sizes.Within 4096 256
 largest = record { tall = omega arith; low = omega arith; wide = omega arith; narrow = omega arith; small = omega arith }

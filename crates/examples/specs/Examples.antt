@@ -17,7 +17,7 @@ use Rattle.quantiser.specs.Threshold.{by-threshold}
 use Rattle.quantiser.specs.declared.palette.Palette.{Palette}
 use Rattle.grid.specs.Limits as sizes
 use Rattle.diffusion.specs.Draft.{Setting, code, error}
-use Rattle.diffusion.specs.Drawings.{plain-drawing}
+use Rattle.diffusion.specs.Drawings.{setting-of}
 use Rattle.diffusion.specs.Sets.{every}
 use Rattle.diffusion.specs.Tallies.{lost}
 
@@ -40,12 +40,7 @@ pub data Example : Type 0 where
   Draft : ℕ → ℕ → ℤ → List ℕ → List ℤ → List ℕ → Example
 
 abbrev pub even : ℕ → ℕ → ℤ → Setting Grey
-even rows columns x = record {
-  algebra = grey-algebra;
-  squares = plain-drawing rows columns knuth-plan;
-  tables = by-threshold (record { least = pos 128 });
-  drawing = λ s. wrap x;
-}
+even rows columns x = setting-of grey-algebra rows columns knuth-plan (by-threshold (record { least = pos 128 })) (λ s. wrap x)
 
 pub record Drafted (rows columns : ℕ) (x : ℤ) (cs : List ℕ) (es : List ℤ) (bs : List ℕ) : Type 0 where
   pub codes : map (code (even rows columns x)) (counting 0 (rows * columns)) ≡ cs
