@@ -1,1 +1,4 @@
+pub mod Directions
 pub mod Limits
+pub mod Lines
+pub mod Neighbours

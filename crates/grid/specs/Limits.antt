@@ -1,4 +1,5 @@
 -- The limits of a drawing's size.
+use mathlib.Core.Path.{_≡_}
 use Prim.Native.Nat.{ℕ, _*_, _≤_}
 
 pub record Within (rows columns : ℕ) : Type 0 where
@@ -7,3 +8,7 @@ pub record Within (rows columns : ℕ) : Type 0 where
   pub wide : 1 ≤ columns
   pub narrow : columns ≤ 4096
   pub small : rows * columns ≤ 1048576
+
+-- the number with which a size is refused: 1, outside the limits and only there
+abbrev pub Refused : ℕ → ℕ → ℕ → Type 0
+Refused rows columns n = (n ≡ 1) × (Within rows columns → ⊥)

@@ -3,7 +3,7 @@ ghost use Prim.Native.Nat.{_*_, _≤_};
 ghost use mathlib.Core.Path.{_≡_};
 ghost use Rattle.std.specs.Results.{Cases};
 ghost use Rattle.refusal.specs.Numbers.{number-of};
-ghost use Rattle.grid.specs.Limits.{Within};
+ghost use Rattle.grid.specs.Limits.{Refused};
 use refusal::Refusal;
 
 #[derive(Clone, Copy)]
@@ -20,7 +20,7 @@ pub struct Size {
 impl Size {
     // The size of so many rows and columns; 1 outside the limits. The product is formed only where it cannot overflow.
     pub fn new(rows: usize, columns: usize) -> Result<Size, Refusal>
-        ensures { λ r. ⌜ Cases r (λ s. (s .rows ≡ rows) × (s .columns ≡ columns)) (λ e. (number-of e ≡ 1) × (Within rows columns → ⊥)) ⌝ }
+        ensures { λ r. ⌜ Cases r (λ s. (s .rows ≡ rows) × (s .columns ≡ columns)) (λ e. Refused rows columns (number-of e)) ⌝ }
     {
         if rows < 1 || rows > 4096 || columns < 1 || columns > 4096 {
             return Err(Refusal::SizeOutsideLimits);

@@ -1,0 +1,13 @@
+pub mod Amounts
+pub mod BandSweeps
+pub mod Conserved
+pub mod Fixing
+pub mod Lines
+pub mod Lost
+pub mod Neighbours
+pub mod Parts
+pub mod Readiness
+pub mod SameDraft
+pub mod SetBands
+pub mod SetSweeps
+pub mod Spreading
