@@ -1,0 +1,4 @@
+pub mod HeaderLength
+pub mod Parts
+pub mod Refusing
+pub mod Rows
