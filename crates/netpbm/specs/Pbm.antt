@@ -29,16 +29,20 @@ raster rows columns codes = joined (λ r. packed black (bytes-for columns) (row-
 abbrev pub pbm : ℕ → ℕ → List ℕ → List ℕ
 pbm rows columns codes = header rows columns ++ raster rows columns codes
 
--- the number by which the first code that is no 0 or 1 is refused: 10 for 255, which says open, else 11; 0 where there is none
-abbrev pub code-refusal : List ℕ → ℕ
-code-refusal [] = 0
-code-refusal (c ∷ cs) = cond (leb c 1) (code-refusal cs) (cond (eqb c 255) 10 11)
+-- the number by which a code above 1 is refused: 10 for 255, which says open, else 11
+abbrev pub code-refusal : ℕ → ℕ
+code-refusal c = cond (eqb c 255) 10 11
+
+-- that of the first code above 1, and 0 where there is none
+abbrev pub codes-refusal : List ℕ → ℕ
+codes-refusal [] = 0
+codes-refusal (c ∷ cs) = cond (leb c 1) (codes-refusal cs) (code-refusal c)
 
 -- the number of the refusal for an output with room for so many bytes, 0 for none: 2 for another count of codes than of squares,
 -- then 6 for too little room, then that of the codes
 abbrev pub pack-refusal : ℕ → ℕ → List ℕ → ℕ → ℕ
 pack-refusal rows columns codes room =
-    cond (eqb (length codes) (rows * columns)) (cond (ltb room (length (pbm rows columns codes))) 6 (code-refusal codes)) 2
+    cond (eqb (length codes) (rows * columns)) (cond (ltb room (length (pbm rows columns codes))) 6 (codes-refusal codes)) 2
 
 -- what Pack answers, and what it makes of the output that was old: the PBM and what lay behind, or all as it was
 abbrev pub Packs : ℕ → ℕ → List ℕ → List ℕ → Result ℕ Refusal → List ℕ → Type 0
