@@ -1,6 +1,7 @@
 // Drawings in and drafts out, in two formats of Netpbm: a plain PGM is read, a raw PBM is written.
 mod codes;
 mod decimal;
+mod digits;
 mod fault;
 mod head;
 mod header;

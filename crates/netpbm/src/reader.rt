@@ -7,8 +7,9 @@ ghost use denote.Ref.{now};
 ghost use Rattle.std.specs.Options.{isSome};
 ghost use Rattle.std.specs.Results.{Cases};
 ghost use Rattle.std.specs.declared.option.Option.the-variants.{Some};
-ghost use Rattle.netpbm.specs.Words.{digit, start, capped, spelled, word-from, Spells};
+ghost use Rattle.netpbm.specs.Words.{start, capped, spelled, word-from, Spells};
 ghost use Rattle.netpbm.specs.Pgm.{told-by, number-fault};
+use crate::digits::append_digit;
 use crate::fault::Fault;
 use crate::separator::is_separator;
 use refusal::Refusal;
@@ -26,13 +27,6 @@ pub struct Reader<'a> {
     pub input: &'a [u8],
     pub position: usize,
     ghost within: { position ≤ length (now input) },
-}
-
-// Whether the byte is a decimal digit.
-fn is_digit(byte: u8) -> bool
-    ensures { λ r. ⌜ r ≡ digit byte ⌝ }
-{
-    byte >= b'0' && byte <= b'9'
 }
 
 impl<'a> Reader<'a> {
@@ -55,13 +49,9 @@ impl<'a> Reader<'a> {
     {
         let mut value: usize = 0;
         while self.position < self.input.len() && !is_separator(self.input[self.position]) {
-            let byte = self.input[self.position];
-            if !is_digit(byte) {
-                return None;
-            }
-            value = value * 10 + (byte - b'0') as usize;
-            if value > 65_535 {
-                return None;
+            match append_digit(value, self.input[self.position]) {
+                Some(longer) => value = longer,
+                None => return None,
             }
             self.position += 1;
         }
