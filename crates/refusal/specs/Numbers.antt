@@ -1,10 +1,17 @@
 -- The number of each refusal. No case has 0, which stands for acceptance.
 use Prim.Native.Nat.{ℕ}
 use Rattle.refusal.specs.declared.refusal.Refusal.{Refusal}
-use Rattle.refusal.specs.declared.refusal.Refusal.the-variants.{SizeOutsideLimits, OutsideLimits, TouchingEqualRanks, PaletteLength, TooManyCodes}
+use Rattle.refusal.specs.declared.refusal.Refusal.the-variants.{SizeOutsideLimits, BandLength, OutputTooShort, SquareOpen, CodeAboveOne, NotPlainPgm, NotANumber, SampleOutsideRange, OutsideLimits, TouchingEqualRanks, PaletteLength, TooManyCodes}
 
 abbrev pub number-of : Refusal → ℕ
 number-of SizeOutsideLimits = 1
+number-of BandLength = 2
+number-of OutputTooShort = 6
+number-of SquareOpen = 10
+number-of CodeAboveOne = 11
+number-of NotPlainPgm = 12
+number-of NotANumber = 13
+number-of SampleOutsideRange = 14
 number-of OutsideLimits = 16
 number-of TouchingEqualRanks = 17
 number-of PaletteLength = 18

@@ -11,6 +11,14 @@ impl Refusal {
         match self {
             Refusal::SizeOutsideLimits =>
                 "a drawing has 1 to 4096 rows and columns and at most 1048576 squares",
+            Refusal::BandLength => "a band is not as long as the drawing has squares",
+            Refusal::OutputTooShort => "an output is too short for what is to be written",
+            Refusal::SquareOpen => "a square is open",
+            Refusal::CodeAboveOne => "a square has a code above 1",
+            Refusal::NotPlainPgm => "a plain PGM begins with P2 and a space, tab, CR or LF",
+            Refusal::NotANumber => "a number is missing, malformed or above 65535",
+            Refusal::SampleOutsideRange =>
+                "a sample is above the greatest one, or the greatest one is outside 1 to 255",
             Refusal::OutsideLimits => "a period, order or byte count is outside its limits",
             Refusal::TouchingEqualRanks => "two squares that touch have equal ranks",
             Refusal::PaletteLength => "a palette has 1 to 16 colours of three bytes each",

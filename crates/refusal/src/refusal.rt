@@ -6,6 +6,20 @@ ghost use Rattle.refusal.specs.Numbers.{number-of};
 pub enum Refusal {
     // A drawing has not 1 to 4,096 rows, 1 to 4,096 columns and at most 1,048,576 squares.
     SizeOutsideLimits,
+    // A band is not as long as the drawing has squares.
+    BandLength,
+    // An output is too short for what is to be written.
+    OutputTooShort,
+    // A square is open, where only fixed ones can be written.
+    SquareOpen,
+    // A square has a code above 1, which a bit cannot hold.
+    CodeAboveOne,
+    // A file does not begin with P2 and a separator.
+    NotPlainPgm,
+    // A number is missing, malformed or above 65,535.
+    NotANumber,
+    // A sample is above the greatest one, or the greatest one is outside 1 to 255.
+    SampleOutsideRange,
     // A period, an order or a byte count is outside its limits.
     OutsideLimits,
     // Two squares that touch have equal ranks.
@@ -23,6 +37,13 @@ impl Refusal {
     {
         match self {
             Refusal::SizeOutsideLimits => 1,
+            Refusal::BandLength => 2,
+            Refusal::OutputTooShort => 6,
+            Refusal::SquareOpen => 10,
+            Refusal::CodeAboveOne => 11,
+            Refusal::NotPlainPgm => 12,
+            Refusal::NotANumber => 13,
+            Refusal::SampleOutsideRange => 14,
             Refusal::OutsideLimits => 16,
             Refusal::TouchingEqualRanks => 17,
             Refusal::PaletteLength => 18,

@@ -5,6 +5,27 @@ use Rattle.refusal.proofs.refusal.Refusal.reason.Needs as need
 pub returns-in-SizeOutsideLimits : need.returns-in-SizeOutsideLimits
 returns-in-SizeOutsideLimits c = ap reason-of (sym (c .in-SizeOutsideLimits .is))
 
+pub returns-in-BandLength : need.returns-in-BandLength
+returns-in-BandLength c = ap reason-of (sym (c .in-BandLength .is))
+
+pub returns-in-OutputTooShort : need.returns-in-OutputTooShort
+returns-in-OutputTooShort c = ap reason-of (sym (c .in-OutputTooShort .is))
+
+pub returns-in-SquareOpen : need.returns-in-SquareOpen
+returns-in-SquareOpen c = ap reason-of (sym (c .in-SquareOpen .is))
+
+pub returns-in-CodeAboveOne : need.returns-in-CodeAboveOne
+returns-in-CodeAboveOne c = ap reason-of (sym (c .in-CodeAboveOne .is))
+
+pub returns-in-NotPlainPgm : need.returns-in-NotPlainPgm
+returns-in-NotPlainPgm c = ap reason-of (sym (c .in-NotPlainPgm .is))
+
+pub returns-in-NotANumber : need.returns-in-NotANumber
+returns-in-NotANumber c = ap reason-of (sym (c .in-NotANumber .is))
+
+pub returns-in-SampleOutsideRange : need.returns-in-SampleOutsideRange
+returns-in-SampleOutsideRange c = ap reason-of (sym (c .in-SampleOutsideRange .is))
+
 pub returns-in-OutsideLimits : need.returns-in-OutsideLimits
 returns-in-OutsideLimits c = ap reason-of (sym (c .in-OutsideLimits .is))
 

@@ -1,0 +1,3 @@
+pub mod Pbm
+pub mod Pgm
+pub mod Words
