@@ -1,0 +1,3 @@
+// The tables, one for each format.
+mod pbm;
+mod pgm;
