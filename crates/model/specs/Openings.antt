@@ -1,14 +1,11 @@
 -- Open: which size is taken, and what becomes of the bands.
-use mathlib.Core.Bool.{Bool, cond, _&&_}
+use mathlib.Core.Bool.{cond, _&&_}
 use mathlib.Core.List.{List}
 use Prim.Native.Nat.{ℕ, _*_}
-use lib.Dec.{eqb, leb}
+use lib.Dec.{eqb}
 use lib.ListN.{length, replicate}
 use Rattle.diffusion.specs.Bands.{Bands}
-
--- a size within its limits
-abbrev pub within : ℕ → ℕ → Bool
-within rows columns = leb 1 rows && (leb rows 4096 && (leb 1 columns && (leb columns 4096 && leb (rows * columns) 1048576)))
+use Rattle.grid.specs.Limits.{within}
 
 -- 0, or the number of the refusal: 1 for the size, then 2 for a band that is not as long as there are squares
 abbrev pub open-refusal : ℕ → ℕ → ℕ → ℕ → ℕ → ℕ
