@@ -14,7 +14,7 @@ use Rattle.tone.specs.Colour.{colour-of}
 use Rattle.tone.specs.Grey.{wrap}
 use Rattle.tone.specs.Sums.{total}
 use Rattle.plan.specs.Doubling.{corner-rank, doubling}
-use Rattle.plan.specs.Knuth.{knuth-ranks}
+use Rattle.plan.specs.Knuth.{knuth-rows}
 use Rattle.plan.specs.Table as tables
 use Rattle.quantiser.specs.Least.{least}
 use Rattle.quantiser.specs.Palette.{by-palette, distance, entry-of, Written}
@@ -67,7 +67,7 @@ tie p is =
     ∙ first-of-two (λ k. distance x (entry-of p k)) 127 (ap (distance x) (is .colours 0 (omega arith))) (ap (distance x) (is .colours 1 (omega arith)))
 
 pub all-hold : All Holds examples
-unfolding wrapped knuth-ranks corner-rank doubling total lower higher weights last sends gather amount-by amount lost
+unfolding wrapped knuth-rows corner-rank doubling total lower higher weights last sends gather amount-by amount lost
 all-hold = (
   largest,
   (

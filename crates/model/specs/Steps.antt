@@ -36,7 +36,7 @@ module _ {T : Type 0} (p : Job T) where
   resume-on rec b = cond (fits p b) (resume-at (record-refusal p rec) (bands (p .setting) (stands rec)) (bands (p .setting) none) b) (told (Refused 2) b)
 
   abbrev pub tally-on : Bands T → Answer T
-  tally-on b = cond (fits p b) (Totals (drawing-total (p .setting) b) (output-total (p .setting) b) (loss-total (p .setting) b) (open-total (p .setting) b)) (Refused 2)
+  tally-on b = cond (fits p b) (Totals (drawing-total (p .setting)) (output-total (p .setting) b) (loss-total (p .setting) b) (open-total (p .setting) b)) (Refused 2)
 
   abbrev pub losses-on : Bands T → List ℕ → List T → Listed T
   losses-on b places errors = cond (fits p b) (list-at (loss-places (p .setting) b) (loss-errors (p .setting) b) places errors) (listed (Refused 2) places errors)
