@@ -11,7 +11,7 @@ use Rattle.quantiser.specs.Tables.{Tables}
 use Rattle.diffusion.specs.Bands.{Bands}
 use Rattle.diffusion.specs.Draft as draft
 use Rattle.diffusion.specs.Draft.{Setting}
-use Rattle.diffusion.specs.Drawings.{plain-drawing}
+use Rattle.diffusion.specs.Drawings.{setting-of}
 use Rattle.diffusion.specs.Theorems.{Capped}
 
 pub record Job (T : Type 0) : Type 0 where
@@ -36,7 +36,7 @@ pub record Lawful {T : Type 0} (p : Job T) : Type 0 where
 -- the job of a size, a plan and a quantiser on a drawing
 abbrev pub job-of : {T : Type 0} → Algebra T → ℕ → ℕ → Ranks → Tables T → List T → Job T
 job-of tone rows columns plan tables drawing = record {
-  setting = record { algebra = tone; squares = plain-drawing rows columns plan; tables = tables; drawing = λ s. getD drawing s (tone .zero) };
+  setting = setting-of tone rows columns plan tables (λ s. getD drawing s (tone .zero));
   rows = rows;
   columns = columns;
   top = plan .top;
