@@ -26,3 +26,7 @@ abbrev pub step : Line → Step → ℕ → Option ℕ
 step line Back x = line .prev x
 step line Stay x = Some x
 step line Ahead x = line .next x
+
+-- the same from a number of the line, and nowhere from another
+abbrev pub step-in : Line → Step → ℕ → Option ℕ
+step-in line to x = cond (ltb x (line .size)) (step line to x) None

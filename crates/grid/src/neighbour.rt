@@ -2,8 +2,8 @@
 ghost use mathlib.Core.Path.{_≡_};
 ghost use Prim.Native.Nat.{_<_};
 ghost use Rattle.std.specs.Options.{Cases};
-ghost use Rattle.grid.specs.Directions.{number-of};
-ghost use Rattle.grid.specs.Lines.{plain, step};
+ghost use Rattle.grid.specs.Directions.{number-of, down, across};
+ghost use Rattle.grid.specs.Lines.{plain, step, step-in};
 ghost use Rattle.grid.specs.Neighbours.{place-of, neighbour};
 use crate::direction::Direction;
 use crate::direction::Step;
@@ -23,6 +23,28 @@ fn stepped(at: usize, count: usize, to: Step) -> Option<usize>
 }
 
 impl Size {
+    // The row that a direction leads to from a row; none off the drawing, and none from a row that is itself outside.
+    pub fn row_beside(&self, row: usize, direction: Direction) -> Option<usize>
+        ensures value { λ r. ⌜ r ≡ step-in (plain (now (self .entry) .rows)) (down (number-of direction)) row ⌝ }
+        ensures bound { λ r. ⌜ Cases r Unit (λ x. x < now (self .entry) .rows) ⌝ }
+    {
+        if row >= self.rows {
+            return None;
+        }
+        stepped(row, self.rows, direction.down())
+    }
+
+    // The same for columns.
+    pub fn column_beside(&self, column: usize, direction: Direction) -> Option<usize>
+        ensures value { λ r. ⌜ r ≡ step-in (plain (now (self .entry) .columns)) (across (number-of direction)) column ⌝ }
+        ensures bound { λ r. ⌜ Cases r Unit (λ x. x < now (self .entry) .columns) ⌝ }
+    {
+        if column >= self.columns {
+            return None;
+        }
+        stepped(column, self.columns, direction.across())
+    }
+
     // The place of the square at a row and a column; none outside the drawing.
     pub fn place(&self, row: usize, column: usize) -> Option<usize>
         ensures { λ r. ⌜ r ≡ place-of (now (self .entry) .rows) (now (self .entry) .columns) row column ⌝ }

@@ -8,8 +8,20 @@ pub enum Refusal {
     SizeOutsideLimits,
     // A band is not as long as the drawing has squares.
     BandLength,
+    // A place lies outside the drawing.
+    OutsideDrawing,
+    // A square is fixed already.
+    SquareFixed,
+    // A neighbour of lower rank is open.
+    LowerNeighbourOpen,
     // An output is too short for what is to be written.
     OutputTooShort,
+    // A record has another size, a spare bit standing or another length than is due.
+    RecordMalformed,
+    // A standing square of a record has a lower neighbour that does not stand.
+    LowerNeighbourMissing,
+    // A code of a record is not the definition's.
+    WrongCode,
     // A square is open, where only fixed ones can be written.
     SquareOpen,
     // A square has a code above 1, which a bit cannot hold.
@@ -38,7 +50,13 @@ impl Refusal {
         match self {
             Refusal::SizeOutsideLimits => 1,
             Refusal::BandLength => 2,
+            Refusal::OutsideDrawing => 3,
+            Refusal::SquareFixed => 4,
+            Refusal::LowerNeighbourOpen => 5,
             Refusal::OutputTooShort => 6,
+            Refusal::RecordMalformed => 7,
+            Refusal::LowerNeighbourMissing => 8,
+            Refusal::WrongCode => 9,
             Refusal::SquareOpen => 10,
             Refusal::CodeAboveOne => 11,
             Refusal::NotPlainPgm => 12,

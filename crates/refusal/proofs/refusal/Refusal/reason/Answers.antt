@@ -37,3 +37,21 @@ returns-in-PaletteLength c = ap reason-of (sym (c .in-PaletteLength .is))
 
 pub returns-in-TooManyCodes : need.returns-in-TooManyCodes
 returns-in-TooManyCodes c = ap reason-of (sym (c .in-TooManyCodes .is))
+
+pub returns-in-OutsideDrawing : need.returns-in-OutsideDrawing
+returns-in-OutsideDrawing c = ap reason-of (sym (c .in-OutsideDrawing .is))
+
+pub returns-in-SquareFixed : need.returns-in-SquareFixed
+returns-in-SquareFixed c = ap reason-of (sym (c .in-SquareFixed .is))
+
+pub returns-in-LowerNeighbourOpen : need.returns-in-LowerNeighbourOpen
+returns-in-LowerNeighbourOpen c = ap reason-of (sym (c .in-LowerNeighbourOpen .is))
+
+pub returns-in-RecordMalformed : need.returns-in-RecordMalformed
+returns-in-RecordMalformed c = ap reason-of (sym (c .in-RecordMalformed .is))
+
+pub returns-in-LowerNeighbourMissing : need.returns-in-LowerNeighbourMissing
+returns-in-LowerNeighbourMissing c = ap reason-of (sym (c .in-LowerNeighbourMissing .is))
+
+pub returns-in-WrongCode : need.returns-in-WrongCode
+returns-in-WrongCode c = ap reason-of (sym (c .in-WrongCode .is))

@@ -1,0 +1,14 @@
+// A job: what it keeps from call to call. The bands are lent anew to each call.
+use grid::Size;
+
+mod fix;
+mod gather;
+mod spread;
+
+// The fields are private: a job whose plan were exchanged would no longer be the one that was opened.
+#[derive(Drop)]
+pub struct Job<P, Q> {
+    size: Size,
+    plan: P,
+    quantiser: Q,
+}

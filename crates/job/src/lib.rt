@@ -1,0 +1,5 @@
+// Jobs: a plan and a quantiser at work on a drawing, in bands that the caller lends.
+mod beside;
+mod job;
+mod kind;
+mod pattern;
