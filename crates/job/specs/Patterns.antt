@@ -34,7 +34,7 @@ kind-at plan own (Some r) (Some c) = compared own (plan .rank r c)
 -- the place beside s, where there is a neighbour, in a drawing with so many columns
 abbrev pub beside : ℕ → ℕ → ℕ → ℕ
 beside columns s d =
-    getD (s - columns ∷ s - columns + 1 ∷ s + 1 ∷ s + columns + 1 ∷ s + columns ∷ s + columns - 1 ∷ s - 1 ∷ s - (columns + 1) ∷ []) d 0
+    getD ((s - columns) ∷ (s - columns + 1) ∷ (s + 1) ∷ (s + columns + 1) ∷ (s + columns) ∷ (s + columns - 1) ∷ (s - 1) ∷ (s - (columns + 1)) ∷ []) d 0
 
 -- the weight of a direction with a higher neighbour; 0 for another
 abbrev pub kind-weight : Kind → ℕ → ℕ
