@@ -172,6 +172,8 @@ lays-out rows columns plan lawful = record {
   laws = laid-out-laws (plain rows) (plain columns) (plain-laws rows) (plain-laws columns) plan (λ d r c r′ c′ ld lr lc hr hc.
       lawful .apart r c r′ c′ (touching r c r′ c′ d ld (plain-stepped rows (down d) r r′ lr hr .0) (plain-stepped columns (across d) c c′ lc hc .0)));
   capped = λ s l. lawful .capped (s / columns) (s % columns);
+  near = λ r c d l. ap₂ (λ x y. neighbour (plain rows) (plain columns) x y d) (div-mul-add r columns c l) (mod-mul-add r columns c l);
+  rank = λ r c l. ap₂ (plan .rank) (div-mul-add r columns c l) (mod-mul-add r columns c l);
 }
 
 pub lawful-drawing : {T : Type 0} (tone : Algebra T) → tones.Lawful tone → (plan : Ranks) → plans.Lawful plan → (tables : Tables T) → Sound tone tables
