@@ -25,7 +25,7 @@ use Rattle.diffusion.specs.Drawings.{laid-out}
 use Rattle.diffusion.specs.Theorems.{Lays-out, Lawful-drawing}
 
 -- each of eight directions
-by-eight : (P : ℕ → Type 0) → P 0 → P 1 → P 2 → P 3 → P 4 → P 5 → P 6 → P 7 → (d : ℕ) → d < 8 → P d
+pub by-eight : (P : ℕ → Type 0) → P 0 → P 1 → P 2 → P 3 → P 4 → P 5 → P 6 → P 7 → (d : ℕ) → d < 8 → P d
 by-eight P a b c d e f g h ℕ.zero l = a
 by-eight P a b c d e f g h (suc ℕ.zero) l = b
 by-eight P a b c d e f g h (suc (suc ℕ.zero)) l = c

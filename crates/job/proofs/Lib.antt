@@ -1,1 +1,4 @@
+pub mod Around
 pub mod KindLists
+pub mod Parting
+pub mod Readies
