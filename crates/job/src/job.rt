@@ -3,6 +3,7 @@ use grid::Size;
 
 mod fix;
 mod gather;
+mod lengths;
 mod spread;
 
 // The fields are private: a job whose plan were exchanged would no longer be the one that was opened.
