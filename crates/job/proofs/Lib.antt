@@ -1,4 +1,6 @@
 pub mod Around
+pub mod Fitting
 pub mod KindLists
 pub mod Parting
 pub mod Readies
+pub mod Terms

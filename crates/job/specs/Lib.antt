@@ -1,2 +1,4 @@
+pub mod Answers
 pub mod Meaning
 pub mod Patterns
+pub mod Shown

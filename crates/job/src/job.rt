@@ -1,9 +1,12 @@
 // A job: what it keeps from call to call. The bands are lent anew to each call.
 use grid::Size;
 
+mod baron;
 mod fix;
 mod gather;
+mod lengths;
 mod spread;
+mod tally;
 
 // The fields are private: a job whose plan were exchanged would no longer be the one that was opened.
 #[derive(Drop)]

@@ -3,3 +3,4 @@ mod beside;
 mod job;
 mod kind;
 mod pattern;
+mod totals;
