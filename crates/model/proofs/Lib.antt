@@ -1,0 +1,4 @@
+pub mod Agreed
+pub mod Binaries
+pub mod Followed
+pub mod Replayed

@@ -1,6 +1,32 @@
-// The calls on a job as pure functions: on bands of any content, and on sets of squares. Its functions bear the theorems over lists of calls.
-ghost use Prim.Native.Nat.{ℕ};
+// The calls on a job as pure functions: on bands of any content, and on sets of squares. Each function here is the bearer of a theorem over
+// every kind of tone T, and computes nothing.
+ghost use Rattle.model.specs.Theorems.{Calls-agree-with-the-model, Any-call-agrees-with-the-model, Lists-of-calls-agree-with-the-model, Replay-judges-every-code};
 
-pub fn nothing() -> u8 {
+// Each call on the bands of a closed set gives the bands of the set that the model makes, with the model's answers and outputs.
+pub fn calls_agree_with_the_model<T>() -> u8
+    ensures { λ _. ⌜ Calls-agree-with-the-model T ⌝ }
+{
+    0
+}
+
+// So does any call with windows of its own into lent memory.
+pub fn any_call_agrees_with_the_model<T>() -> u8
+    ensures { λ _. ⌜ Any-call-agrees-with-the-model T ⌝ }
+{
+    0
+}
+
+// So does every list of calls.
+pub fn lists_of_calls_agree_with_the_model<T>() -> u8
+    ensures { λ _. ⌜ Lists-of-calls-agree-with-the-model T ⌝ }
+{
+    0
+}
+
+// The squares that stand in a code band, worked again rank by rank from the drawing: their amounts where every code is the definition's, and
+// nothing where one is not.
+pub fn replay_judges_every_code<T>() -> u8
+    ensures { λ _. ⌜ Replay-judges-every-code T ⌝ }
+{
     0
 }
