@@ -1,6 +1,6 @@
 // The calls on a job as pure functions: on bands of any content, and on sets of squares. Each function here is the bearer of a theorem over
 // every kind of tone T, and computes nothing.
-ghost use Rattle.model.specs.Theorems.{Calls-agree-with-the-model, Any-call-agrees-with-the-model, Lists-of-calls-agree-with-the-model, Replay-judges-every-code};
+ghost use Rattle.model.specs.Theorems.{Calls-agree-with-the-model, Any-call-agrees-with-the-model, Lists-of-calls-agree-with-the-model, Replay-judges-every-code, Resume-is-a-replay};
 
 // Each call on the bands of a closed set gives the bands of the set that the model makes, with the model's answers and outputs.
 pub fn calls_agree_with_the_model<T>() -> u8
@@ -27,6 +27,13 @@ pub fn lists_of_calls_agree_with_the_model<T>() -> u8
 // nothing where one is not.
 pub fn replay_judges_every_code<T>() -> u8
     ensures { λ _. ⌜ Replay-judges-every-code T ⌝ }
+{
+    0
+}
+
+// What a record is refused with, and the bands that it brings back, are what a replay of its codes says.
+pub fn resume_is_a_replay<T>() -> u8
+    ensures { λ _. ⌜ Resume-is-a-replay T ⌝ }
 {
     0
 }
