@@ -15,7 +15,7 @@ use Rattle.std.proofs.shelf.Lists.{append-assoc, append-nil, getD-append-left, 
 use Rattle.std.proofs.shelf.Counted.{fill-by-all, length-map-counting, getD-map-counting, kept-by-map-counting-more}
 use Rattle.std.proofs.shelf.Tests.{cond-true, cases-lt, lt-ltb, le-ltb, ltb-true, ltb-false, eq-eqb, eqb-true, and-parts, and-from, ne-eqb}
 use Rattle.std.proofs.shelf.Ways.{decides-eqb}
-use Rattle.bits.specs.Bits.{fixed, bit-at, byte-of, bytes-for, packed}
+use Rattle.bits.specs.Bits.{fixed, bit-at, binary, byte-of, bytes-for, packed}
 use Rattle.bits.proofs.Binary.{bit-at-le, length-packed}
 use Rattle.diffusion.specs.Bands.{code-at, codes}
 use Rattle.diffusion.specs.Draft.{Setting, amount, code}
@@ -246,14 +246,19 @@ module _ {T : Type 0} (p : Job T) (laws : Lawful p) (rec : List ℕ) (small : By
         ∙ sym (decides-spare n rec .0 (formed .1) k l h)
   ]
 
-  byte-same : (b : ℕ) → b < bytes-for n → getD rec (4 + b) 0 ≡ byte-of fixed (drop (8 * b) (codes j (stands rec)))
-  byte-same b l = sym (binary-same _ (λ i. getD rec (4 + b) 0 / 2 ^ (7 - i) % 2) 8 (λ i h.
+  one-bit : (b i : ℕ) → b < bytes-for n → i < 8 → bit-at fixed (drop (8 * b) (codes j (stands rec))) i ≡ getD rec (4 + b) 0 / 2 ^ (7 - i) % 2
+  one-bit b i l h =
       let row : (8 * b + i) / 8 ≡ b = omega arith in
       let column : (8 * b + i) % 8 ≡ i = omega arith in
+      let same : stands rec (8 * b + i) ≡ eqb (getD rec (4 + b) 0 / 2 ^ (7 - i) % 2) 1 = ap₂ (λ x y. eqb (getD rec (4 + x) 0 / 2 ^ (7 - y) % 2) 1) row column in
       bit-drop (8 * b) (codes j (stands rec)) i
-      ∙ ap (λ t. cond t 1 0) (bit-same (8 * b + i) (omega arith) ∙ ap₂ (λ x y. eqb (getD rec (4 + x) 0 / 2 ^ (7 - y) % 2) 1) row column)
-      ∙ bit-of-two (getD rec (4 + b) 0 / 2 ^ (7 - i) % 2) (omega arith))
-      ∙ byte-is (getD rec (4 + b) 0) (small (4 + b)))
+      ∙ ap (λ t. cond t 1 0) (bit-same (8 * b + i) (omega arith) ∙ same)
+      ∙ bit-of-two (getD rec (4 + b) 0 / 2 ^ (7 - i) % 2) (omega arith)
+
+  byte-same : (b : ℕ) → b < bytes-for n → getD rec (4 + b) 0 ≡ byte-of fixed (drop (8 * b) (codes j (stands rec)))
+  byte-same b l =
+      let bits : byte-of fixed (drop (8 * b) (codes j (stands rec))) ≡ binary (λ i. getD rec (4 + b) 0 / 2 ^ (7 - i) % 2) 8 = binary-same _ _ 8 (λ i h. one-bit b i l h) in
+      sym (bits ∙ byte-is (getD rec (4 + b) 0) (small (4 + b)))
 
   map-same : take (bytes-for n) (drop 4 rec) ≡ bit-map (codes j (stands rec))
   map-same =
