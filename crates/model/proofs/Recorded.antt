@@ -1,5 +1,5 @@
 -- Records: what the record of a set tells, that it is accepted, and that an accepted record is the one that Halt writes of its squares.
-use mathlib.Core.Path.{_≡_, refl, sym, ap, ap₂, _∙_}
+use mathlib.Core.Path.{_≡_, refl, sym, ap, ap₂, subst, _∙_}
 use mathlib.Core.Bool.{Bool, true, false, cond, _&&_, _||_, not, false≢true}
 use mathlib.Core.List.{List, [], _∷_, _++_, map}
 use mathlib.Core.Logic.{inl, inr}
@@ -250,10 +250,10 @@ module _ {T : Type 0} (p : Job T) (laws : Lawful p) (rec : List ℕ) (small : By
   one-bit b i l h =
       let row : (8 * b + i) / 8 ≡ b = omega arith in
       let column : (8 * b + i) % 8 ≡ i = omega arith in
-      let same : stands rec (8 * b + i) ≡ eqb (getD rec (4 + b) 0 / 2 ^ (7 - i) % 2) 1 = ap₂ (λ x y. eqb (getD rec (4 + x) 0 / 2 ^ (7 - y) % 2) 1) row column in
-      bit-drop (8 * b) (codes j (stands rec)) i
-      ∙ ap (λ t. cond t 1 0) (bit-same (8 * b + i) (omega arith) ∙ same)
-      ∙ bit-of-two (getD rec (4 + b) 0 / 2 ^ (7 - i) % 2) (omega arith)
+      let same : marked (codes j (stands rec)) (8 * b + i) ≡ eqb (getD rec (4 + b) 0 / 2 ^ (7 - i) % 2) 1 =
+      bit-same (8 * b + i) (omega arith) ∙ ap₂ (λ x y. eqb (getD rec (4 + x) 0 / 2 ^ (7 - y) % 2) 1) row column in
+      subst (λ x. x ≡ getD rec (4 + b) 0 / 2 ^ (7 - i) % 2) (sym (bit-drop (8 * b) (codes j (stands rec)) i))
+      (subst (λ t. cond t 1 0 ≡ getD rec (4 + b) 0 / 2 ^ (7 - i) % 2) (sym same) (bit-of-two (getD rec (4 + b) 0 / 2 ^ (7 - i) % 2) (omega arith)))
 
   byte-same : (b : ℕ) → b < bytes-for n → getD rec (4 + b) 0 ≡ byte-of fixed (drop (8 * b) (codes j (stands rec)))
   byte-same b l =

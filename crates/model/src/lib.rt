@@ -1,6 +1,6 @@
 // The calls on a job as pure functions: on bands of any content, and on sets of squares. Each function here is the bearer of a theorem over
 // every kind of tone T, and computes nothing.
-ghost use Rattle.model.specs.Theorems.{Calls-agree-with-the-model, Any-call-agrees-with-the-model, Lists-of-calls-agree-with-the-model, Replay-judges-every-code, Resume-is-a-replay, Every-list-of-calls-keeps-the-draft, Finish-fixes-every-open-square, Same-squares-same-bands};
+ghost use Rattle.model.specs.Theorems.{Calls-agree-with-the-model, Any-call-agrees-with-the-model, Lists-of-calls-agree-with-the-model, Replay-judges-every-code, Resume-is-a-replay, Every-list-of-calls-keeps-the-draft, Finish-fixes-every-open-square, Same-squares-same-bands, Resume-accepts-just-what-Halt-writes};
 
 // Each call on the bands of a closed set gives the bands of the set that the model makes, with the model's answers and outputs.
 pub fn calls_agree_with_the_model<T>() -> u8
@@ -56,6 +56,13 @@ pub fn finish_fixes_every_open_square<T>() -> u8
 // Lists of calls that end with the same squares fixed end with the same bands, on two jobs of equal meaning.
 pub fn same_squares_same_bands<T>() -> u8
     ensures { λ _. ⌜ Same-squares-same-bands T ⌝ }
+{
+    0
+}
+
+// Resume accepts a record just when a list of calls on a new job ends where Halt writes it, and then brings back the bands entire.
+pub fn resume_accepts_just_what_halt_writes<T>() -> u8
+    ensures { λ _. ⌜ Resume-accepts-just-what-Halt-writes T ⌝ }
 {
     0
 }
