@@ -3,11 +3,11 @@ use mathlib.Core.Path.{_≡_, refl, sym, ap, ap₂, _∙_}
 use mathlib.Core.Bool.{Bool, true, false, cond}
 use mathlib.Core.List.{List, [], _∷_}
 use mathlib.Core.Logic.{inl, inr}
-use Prim.Native.Nat.{ℕ, zero, suc, _+_, _<_}
+use Prim.Native.Nat.{ℕ, zero, suc, _<_}
 use native.Mathlib.Omega.{arith}
 use lib.Dec.{ltb}
 use Rattle.std.proofs.shelf.Tests.{cases-lt, cond-false, lt-ltb, le-ltb, ltb-true}
-use Rattle.diffusion.specs.Bands.{Bands, bands, standing}
+use Rattle.diffusion.specs.Bands.{bands, standing}
 use Rattle.diffusion.specs.Draft as draft
 use Rattle.diffusion.specs.Draft.{Setting}
 use Rattle.diffusion.specs.Neighbourhoods.{Neighbourhood, Laws}

@@ -1,11 +1,11 @@
 -- A job that is opened: it keeps the laws, its bands are those of no square, and jobs of equal meaning are alike.
-use mathlib.Core.Path.{_≡_, refl, sym, subst₂, ap, _∙_}
+use mathlib.Core.Path.{_≡_, refl, subst₂, _∙_}
 use mathlib.Core.List.{List, map}
-use Prim.Native.Nat.{ℕ, _+_, _*_, _/_, _%_, _<_}
+use Prim.Native.Nat.{ℕ, _*_, _/_, _%_, _<_}
 use native.Mathlib.Omega.{arith}
 use lib.ListN.{length, getD, replicate}
 use Rattle.std.specs.Iters.{counting}
-use Rattle.std.proofs.shelf.Counted.{fill-by-all, length-map-counting}
+use Rattle.std.proofs.shelf.Counted.{fill-by-all}
 use Rattle.std.proofs.shelf.Lists.{length-replicate, getD-replicate}
 use Rattle.tone.specs.Algebra.{Algebra}
 use Rattle.tone.specs.Algebra as tones
@@ -17,7 +17,7 @@ use Rattle.diffusion.specs.Sets.{none}
 use Rattle.diffusion.specs.Theorems.{Alike}
 use Rattle.diffusion.proofs.Lines.{lawful-drawing}
 use Rattle.diffusion.proofs.SetBands.{opened-is}
-use Rattle.model.specs.Jobs.{Job, Lawful, squares, job-of}
+use Rattle.model.specs.Jobs.{Lawful, squares, job-of}
 use Rattle.model.specs.Openings.{opened-on}
 
 module _ {T : Type 0} (tone : Algebra T) (rows columns : ℕ) (plan : Ranks) (tables : Tables T) (drawing : List T) where

@@ -11,7 +11,7 @@ use Rattle.std.specs.declared.option.Option.{Option}
 use Rattle.std.specs.declared.option.Option.the-variants.{Some, None}
 use Rattle.std.proofs.shelf.Tests.{cases-eq, eq-eqb, eqb-true, eqb-false, lt-ltb, ltb-true, and-parts, and-from, and-left, and-right, and-cases, or-cases, or-left, or-right, both-ways}
 use Rattle.std.proofs.shelf.Ways.{tells}
-use Rattle.diffusion.specs.Bands.{Bands, bands, opened, amounts, standing}
+use Rattle.diffusion.specs.Bands.{opened, amounts, standing}
 use Rattle.diffusion.specs.Draft.{amount, code}
 use Rattle.diffusion.specs.Neighbourhoods.{Neighbourhood}
 use Rattle.diffusion.specs.Sets.{none, add, Closed, Ready}

@@ -13,8 +13,8 @@ use Rattle.diffusion.specs.Neighbourhoods.{baron}
 use Rattle.diffusion.specs.Sets.{none, lacking, Closed}
 use Rattle.diffusion.specs.Tallies.{drawing-total, output-total, open-total, loss-places, loss-errors}
 use Rattle.diffusion.specs.Theorems.{Alike}
-use Rattle.model.specs.Calls.{Call, Answer, Told, told, Wrote, wrote, Pools, Done, carry-told, carry}
-use Rattle.model.specs.Calls.Answer.{Code, Count, Resumed, Refused}
+use Rattle.model.specs.Calls.{Call, told, wrote, Pools, carry-told, carry}
+use Rattle.model.specs.Calls.Answer.{Code, Count, Resumed}
 use Rattle.model.specs.Calls.Call.{Follow, Finish}
 use Rattle.model.specs.Jobs.{Job, Lawful, squares, fits}
 use Rattle.model.specs.Records.{record-of, record-refusal, stands, code-in, well-formed, closed-by}
