@@ -2,3 +2,4 @@ pub mod Answers
 pub mod Meaning
 pub mod Patterns
 pub mod Shown
+pub mod Single
