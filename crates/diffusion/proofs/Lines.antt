@@ -58,7 +58,7 @@ both-some w None b t h = let z : _≡_ {A = ℕ} 0 1 = cc in absurd (omega arith
 both-some w (Some r) None t h = let z : _≡_ {A = ℕ} 0 1 = cc in absurd (omega arith)
 both-some w (Some r) (Some c) t h = (r, c, refl, refl, cc)
 
-wide-enough : (h w s : ℕ) → s < h * w → 0 < w
+pub wide-enough : (h w s : ℕ) → s < h * w → 0 < w
 wide-enough h ℕ.zero s l = absurd (omega (arith, mul-zero h))
 wide-enough h (suc w) s l = omega arith
 

@@ -1,8 +1,7 @@
 -- Records and lists of calls: Resume accepts a record just when a list of calls ends where Halt writes it.
 use mathlib.Core.Path.{_≡_, refl, sym, ap, _∙_}
-use mathlib.Core.Bool.{Bool, true, false, cond, false≢true}
+use mathlib.Core.Bool.{Bool, true, false, cond}
 use mathlib.Core.List.{List, [], _∷_, _++_}
-use mathlib.Core.Logic.{⊎-elim}
 use Prim.Native.Nat.{ℕ, suc}
 use native.Mathlib.Omega.{arith}
 use lib.Dec.{eqb, ltb}
@@ -13,10 +12,10 @@ use Rattle.diffusion.specs.Bands.{Bands, bands, codes}
 use Rattle.diffusion.specs.Draft as draft
 use Rattle.diffusion.specs.Draft.{Setting}
 use Rattle.diffusion.specs.Sets.{none, Closed}
-use Rattle.diffusion.specs.Sweeps.{sweep}
+use Rattle.diffusion.specs.Sweeps.{sweep, sweep-in}
 use Rattle.diffusion.specs.Theorems.{Capped}
-use Rattle.diffusion.proofs.SetBands.{bands-same}
-use Rattle.diffusion.proofs.SetSweeps.{sweep-is}
+use Rattle.diffusion.proofs.BandSweeps.{sweep-bands, replays}
+use Rattle.diffusion.proofs.SetBands.{bands-same, opened-is}
 use Rattle.model.specs.Calls.{Call, Told, told, wrote, Pools, resume-at}
 use Rattle.model.specs.Calls.Answer.{Count, Resumed, Refused}
 use Rattle.model.specs.Calls.Call.{Follow}
@@ -35,15 +34,9 @@ use Rattle.model.proofs.Recorded.{stands-are, written-accepted, rebuilt}
 swept-up : {T : Type 0} (j : Setting T) → draft.Lawful j → (top : ℕ) → Capped (j .squares) top → (F : ℕ → Bool) → Closed (j .squares) F
     → bands j (sweep (j .squares) F none (suc top)) ≡ bands j F
 swept-up j lawful top capped F closed =
-    let k = sweep-is (j .squares) (lawful .squares) F closed none (suc top) in
-    bands-same j (lawful .squares) (sweep (j .squares) F none (suc top)) F (λ s l. same-bool _ _
-    (λ h. ⊎-elim (λ z. absurd (false≢true z)) (λ w. w) (k .only s h))
-    (λ w. k .done s l w (omega (arith, capped s l))))
-  where
-    same-bool : (a b : Bool) → (a ≡ true → b ≡ true) → (b ≡ true → a ≡ true) → a ≡ b
-    same-bool true b f g = sym (f refl)
-    same-bool false true f g = g refl
-    same-bool false false f g = refl
+    sym (sweep-bands j lawful F none (λ s d t l ld h e. h) (suc top) .0)
+    ∙ ap (λ b. sweep-in j F b (suc top)) (sym (opened-is j lawful))
+    ∙ replays j lawful top capped F closed .made
 
 after-follow : {T : Type 0} (p : Job T) (ps : List ℕ) (o : Pools T) → fixed-after p (Follow ps ∷ []) o ≡ follow (p .setting .squares) none ps .state
 unfolding run

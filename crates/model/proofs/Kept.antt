@@ -3,7 +3,6 @@ use mathlib.Core.Path.{_≡_, refl, sym, ap, ap₂, subst, _∙_}
 use mathlib.Core.Bool.{Bool, true, cond, not}
 use mathlib.Core.List.{List, [], _∷_, _++_, map}
 use Prim.Native.Nat.{ℕ, suc, _*_, _/_, _%_, _<_}
-use native.Mathlib.Omega.{arith}
 use lib.Dec.{eqb}
 use lib.ListN.{length, getD}
 use Rattle.std.specs.shelf.Lists.{Has}
@@ -19,6 +18,7 @@ use Rattle.diffusion.specs.Theorems.{Alike, Lists-losses}
 use Rattle.diffusion.proofs.BandSweeps as sweeps
 use Rattle.diffusion.proofs.Conserved.{keeps-total}
 use Rattle.diffusion.proofs.Fixing.{amount-open, amount-fixed}
+use Rattle.diffusion.proofs.Lines.{wide-enough}
 use Rattle.diffusion.proofs.Lost.{lists-losses}
 use Rattle.diffusion.proofs.Readiness.{some-ready}
 use Rattle.diffusion.proofs.SameDraft.{same-draft}
@@ -43,11 +43,6 @@ run-append f (c ∷ cs) ds s o = run-append f cs ds (f c s o .state) (f c s o .p
 run-finish : {T : Type 0} (p : Job T) (F : ℕ → Bool) (o : Pools T) → run (model p) (Finish ∷ []) F o .state ≡ every
 unfolding run
 run-finish p F o = refl
-
--- there is a column where there is a square
-wide-enough : (rows columns s : ℕ) → s < rows * columns → 0 < columns
-wide-enough rows ℕ.zero s l = absurd (omega arith)
-wide-enough rows (suc columns) s l = omega arith
 
 module _ {T : Type 0} (p : Job T) (laws : Lawful p) where
   open Job p using (setting as j)

@@ -3,6 +3,7 @@ pub mod Binaries
 pub mod Followed
 pub mod Halted
 pub mod Kept
+pub mod OneMore
 pub mod Opened
 pub mod Reached
 pub mod Recorded

@@ -9,7 +9,6 @@ use lib.Dec.{eqb}
 use lib.ListN.{getD}
 use Rattle.std.specs.declared.option.Option.{Option}
 use Rattle.std.specs.declared.option.Option.the-variants.{Some, None}
-use Rattle.std.proofs.shelf.Counted.{getD-map-counting}
 use Rattle.std.proofs.shelf.Tests.{cases-bool, cond-true, ne-eqb, both-ways}
 use Rattle.diffusion.specs.Bands.{bands, opened, code-at, codes, amounts, standing}
 use Rattle.diffusion.specs.Draft.{amount, code}
@@ -20,6 +19,7 @@ use Rattle.model.specs.Records.{stands, code-in, well-formed, closed-by, right
 use Rattle.model.specs.Replays.{codes-in, replay}
 use Rattle.model.specs.Theorems.{Resumes}
 use Rattle.model.proofs.Agreed.{decides-closed}
+use Rattle.model.proofs.OneMore.{getD-codes-in}
 use Rattle.model.proofs.Recorded.{decides-codes, closed-same}
 use Rattle.model.proofs.Replayed.{replays}
 
@@ -40,15 +40,12 @@ module _ {T : Type 0} (p : Job T) (laws : Lawful p) (rec : List ℕ) (formed : w
   unfolding record-refusal
   accepted e = rw (formed, closed, e) refl
 
-  read : (s : ℕ) → s < n → getD cs s 255 ≡ cond (stands rec s) (code-in n rec s) 255
-  read s l = getD-map-counting (λ s. cond (stands rec s) (code-in n rec s) 255) 0 n s s 255 l (omega arith)
-
   Full : Type 0
   Full = (s : ℕ) → s < n → stands rec s ≡ true → code-in n rec s ≡ 255 → ⊥
 
   standing-same : Full → (s : ℕ) → s < n → stands rec s ≡ standing cs s
   unfolding Full
-  standing-same full s l = sym (ap (λ x. not (eqb x 255)) (read s l) ∙ go (stands rec s) refl)
+  standing-same full s l = sym (ap (λ x. not (eqb x 255)) (getD-codes-in n rec s 255 l) ∙ go (stands rec s) refl)
     where
       go : (t : Bool) → stands rec s ≡ t → not (eqb (cond t (code-in n rec s) 255) 255) ≡ t
       go true e = ap not (ne-eqb _ 255 (full s l e))
@@ -60,10 +57,10 @@ module _ {T : Type 0} (p : Job T) (laws : Lawful p) (rec : List ℕ) (formed : w
   right-from : Full → right-codes j rec ≡ true → Right
   right-from full e s l h =
       let t = standing-same full s l ∙ h in
-      read s l ∙ cond-true (stands rec s) _ 255 t ∙ decides-codes j rec .0 e s l t
+      getD-codes-in n rec s 255 l ∙ cond-true (stands rec s) _ 255 t ∙ decides-codes j rec .0 e s l t
 
   right-to : Full → Right → right-codes j rec ≡ true
-  right-to full h = decides-codes j rec .1 (λ s l t. sym (read s l ∙ cond-true (stands rec s) _ 255 t) ∙ h s l (sym (standing-same full s l) ∙ t))
+  right-to full h = decides-codes j rec .1 (λ s l t. sym (getD-codes-in n rec s 255 l ∙ cond-true (stands rec s) _ 255 t) ∙ h s l (sym (standing-same full s l) ∙ t))
 
   standing-closed : Full → Closed (j .squares) (standing cs)
   standing-closed full = closed-same (j .squares) (laws .setting .squares) (stands rec) (standing cs) (standing-same full) (decides-closed (j .squares) (stands rec) .0 closed)
