@@ -5,6 +5,7 @@ mod digits;
 mod fault;
 mod head;
 mod header;
+mod laws;
 mod packing;
 mod raster;
 mod reader;
@@ -13,6 +14,7 @@ mod samples;
 mod separator;
 
 pub use fault::Fault;
+pub use laws::every_drawing_is_read;
 pub use packing::pack;
 pub use reading::Picture;
 pub use reading::read_pgm;
