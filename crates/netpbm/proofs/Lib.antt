@@ -6,4 +6,5 @@ pub mod Parts
 pub mod ReadBack
 pub mod Refusing
 pub mod Rows
+pub mod Squares
 pub mod Words

@@ -15,6 +15,7 @@ mod separator;
 
 pub use fault::Fault;
 pub use laws::every_drawing_is_read;
+pub use laws::every_square_has_its_bit;
 pub use packing::pack;
 pub use reading::Picture;
 pub use reading::read_pgm;
