@@ -1,24 +1,23 @@
 -- A drawing written as a plain PGM is read.
 use mathlib.Core.Path.{_≡_, refl, sym, ap, _∙_}
 use mathlib.Core.Bool.{Bool, true, cond, _&&_}
-use mathlib.Core.List.{List, [], _∷_, _++_, map}
+use mathlib.Core.List.{List, _∷_, _++_, map}
 use Prim.Native.Nat.{ℕ, zero, suc, _+_, _*_, _<_, _≤_}
 use native.Mathlib.Omega.{arith}
 use lib.Dec.{leb}
 use lib.ListN.{length, getD, drop}
 use Rattle.std.specs.Iters.{counting}
 use Rattle.std.specs.Options.{isSome, valueOr}
-use Rattle.std.specs.declared.option.Option.{Option}
 use Rattle.std.specs.declared.option.Option.the-variants.{Some, None}
 use Rattle.std.proofs.shelf.Lists.{length-map, getD-map}
 use Rattle.std.proofs.shelf.Counted.{fill-by-all}
 use Rattle.std.proofs.shelf.Tests.{le-leb}
 use Rattle.std.proofs.shelf.Ways.{tells}
-use Rattle.grid.specs.Limits.{Within, within}
+use Rattle.grid.specs.Limits.{within}
 use Rattle.grid.proofs.Deciding.{within-true}
-use Rattle.netpbm.specs.Words.{after, number-at, value-at}
-use Rattle.netpbm.specs.Pgm.{Told, or-else, unless, begins, rows-in, columns-in, greatest-in, squares-in, head-fault, first-fault, sound, read-fault, tones-read, tone-of, tone-in, filled}
-use Rattle.netpbm.specs.Files.{numbered, pgm, Drawing, Given-back}
+use Rattle.netpbm.specs.Words.{after, number-at}
+use Rattle.netpbm.specs.Pgm.{Told, or-else, unless, begins, columns-in, greatest-in, squares-in, head-fault, first-fault, sound, tones-read, tone-of, tone-in, filled}
+use Rattle.netpbm.specs.Files.{pgm, Drawing, Given-back}
 use Rattle.netpbm.proofs.Faults.{fault-of, sound-all}
 use Rattle.netpbm.proofs.ReadBack.{Listed, first-apart, number-read, numbers-end, begins-numbered}
 

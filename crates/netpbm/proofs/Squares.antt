@@ -3,13 +3,12 @@ use mathlib.Core.Path.{_≡_, refl, sym, ap, _∙_}
 use mathlib.Core.Bool.{cond, _&&_}
 use mathlib.Core.List.{List, _++_}
 use mathlib.Core.Logic.{⊎-elim}
-use Prim.Native.Nat.{ℕ, zero, suc, _+_, _-_, _*_, _/_, _%_, _^_, _<_, _≤_}
+use Prim.Native.Nat.{ℕ, zero, suc, _+_, _-_, _*_, _/_, _%_, _^_, _<_}
 use native.Mathlib.Omega.{arith}
-use native.Mathlib.Nat.{add-mul}
 use lib.Dec.{ltb}
-use lib.ListN.{length, getD, take, drop, length-drop}
+use lib.ListN.{length, getD, drop, length-drop}
 use Rattle.std.proofs.shelf.Lists.{getD-append-left, getD-append-add, getD-drop, getD-take, length-take-le, drop-drop, drop-at}
-use Rattle.std.proofs.shelf.Tests.{cases-eq, cases-lt, lt-ltb, le-ltb}
+use Rattle.std.proofs.shelf.Tests.{cases-eq, cases-lt, le-ltb}
 use Rattle.bits.specs.Bits.{packed, black, bytes-for, bit-at, bit-in}
 use Rattle.bits.proofs.Unpacked.{bit-kept}
 use Rattle.netpbm.specs.Pbm.{header, raster, row-of, pbm}

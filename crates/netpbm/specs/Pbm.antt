@@ -26,6 +26,7 @@ row-of columns codes r = take columns (drop (r * columns) codes)
 abbrev pub raster : ℕ → ℕ → List ℕ → List ℕ
 raster rows columns codes = joined (λ r. packed black (bytes-for columns) (row-of columns codes r)) (counting 0 rows)
 
+-- the whole file
 abbrev pub pbm : ℕ → ℕ → List ℕ → List ℕ
 pbm rows columns codes = header rows columns ++ raster rows columns codes
 

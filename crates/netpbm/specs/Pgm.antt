@@ -17,6 +17,7 @@ use Rattle.netpbm.specs.Words.{separator, start, number-at, value-at, after}
 pub data Told : Type 0 where
   told : ℕ → ℕ → Told
 
+-- what the code's fault tells
 abbrev pub told-by : Fault → Told
 told-by f = told (number-of (f .refusal)) (f .offset)
 
@@ -25,6 +26,7 @@ abbrev pub or-else : Option Told → Option Told → Option Told
 or-else (Some f) g = Some f
 or-else None g = g
 
+-- a fault unless the test holds
 abbrev pub unless : Bool → Told → Option Told
 unless t f = cond t None (Some f)
 
@@ -32,6 +34,7 @@ unless t f = cond t None (Some f)
 abbrev pub begins : List ℕ → Bool
 begins input = eqb (getD input 0 0) 80 && (eqb (getD input 1 0) 50 && separator (getD input 2 0))
 
+-- the three numbers of the head, and how many samples follow
 abbrev pub columns-in : List ℕ → ℕ
 columns-in input = value-at input (after input 0)
 

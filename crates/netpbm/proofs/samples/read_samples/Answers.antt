@@ -1,8 +1,7 @@
 use mathlib.Core.Path.{_≡_, refl, sym, ap, _∙_}
-use Prim.Native.Nat.{_+_, _<_, suc}
+use Prim.Native.Nat.{_+_, suc}
 use native.Mathlib.Omega.{arith}
 use denote.Ref.{now}
-use lib.ListN.{length}
 use Rattle.std.specs.declared.option.Option.the-variants.{Some, None}
 use Rattle.netpbm.specs.Words.{after, stop, value-at}
 use Rattle.netpbm.specs.Pgm.{told-by, first-fault, tone-of, tone-in, greatest-in}
