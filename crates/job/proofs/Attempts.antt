@@ -34,6 +34,6 @@ module _ {T : Type 0} (j : Setting T) (s : ℕ) (b : Bands T) where
       let code-at : code ≡ j .tables .choice y = code-is ∙ ap (j .tables .choice) x-is in
       let e-at : e ≡ left j y = e-is ∙ ap₂ (j .algebra .difference) x-is (ap (j .tables .output) code-at) in
       let xs-at : xs ≡ spread (j .algebra) (j .squares) s (sends (j .algebra) (j .squares) s (left j y)) 8 (set (b .amounts) s (left j y))
-            = xs-is ∙ ap (λ z. spread (j .algebra) (j .squares) s (sends (j .algebra) (j .squares) s z) 8 (set (b .amounts) s z)) e-at in
+      = xs-is ∙ ap (λ z. spread (j .algebra) (j .squares) s (sends (j .algebra) (j .squares) s z) 8 (set (b .amounts) s z)) e-at in
       (λ i. told (Code (code-at i)) (record { codes = set (b .codes) s (code-at i); amounts = xs-at i }))
       ∙ sym (ap (λ r. fix-at r (j .tables .choice y) (fixed-in j s b) b) none)
