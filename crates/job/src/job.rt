@@ -3,6 +3,7 @@ use grid::Size;
 
 mod baron;
 mod fix;
+mod follow;
 mod gather;
 mod lengths;
 mod spread;
