@@ -6,6 +6,7 @@ mod fix;
 mod follow;
 mod gather;
 mod lengths;
+mod open;
 mod spread;
 mod tally;
 
