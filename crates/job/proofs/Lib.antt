@@ -1,2 +1,5 @@
 pub mod Fitting
+pub mod Kept
+pub mod Outputs
+pub mod Parts
 pub mod Terms

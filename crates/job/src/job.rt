@@ -4,6 +4,7 @@ use grid::Size;
 mod baron;
 mod fix;
 mod gather;
+mod halt;
 mod lengths;
 mod spread;
 mod tally;
