@@ -6,6 +6,7 @@ mod fix;
 mod gather;
 mod halt;
 mod lengths;
+mod losses;
 mod spread;
 mod tally;
 
