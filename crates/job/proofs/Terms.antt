@@ -10,7 +10,7 @@ use lib.ListN.{length, getD, take}
 use Rattle.std.specs.shelf.Lists.{folded}
 use Rattle.std.proofs.shelf.Lists.{getD-default, take-all}
 use Rattle.std.proofs.shelf.Sums.{folded-more}
-use Rattle.std.proofs.shelf.Tests.{cond-true, cond-false, eq-eqb, ne-eqb}
+use Rattle.std.proofs.shelf.Tests.{cond-true, cond-false}
 use Rattle.tone.specs.Algebra.{Algebra, Lawful}
 use Rattle.tone.specs.Sums.{sum-of, total}
 use Rattle.tone.proofs.Totals.{total-none, total-more}
@@ -19,6 +19,7 @@ use Rattle.diffusion.specs.Bands.{standing}
 use Rattle.diffusion.specs.Neighbourhoods.{Neighbourhood, baron}
 use Rattle.model.specs.Calls.Answer.{Totals}
 use Rattle.job.specs.Shown.{tone-at, output-at, loss-at, open-at}
+use Rattle.job.proofs.Standing.{standing-fixed, standing-open, lost-read}
 
 module _ {T : Type 0} (a : Algebra T) (f : ℕ → T) (n : ℕ) (sum : T) (so-far : sum ≡ total a f n) where
   pub term-added : (x more : T) → x ≡ f n → more ≡ a .sum sum x → more ≡ total a f (n + 1)
@@ -43,16 +44,6 @@ sum-of-front a xs (suc n) h =
 pub sum-of-all : {T : Type 0} (a : Algebra T) (xs : List T) (n : ℕ) → length xs ≡ n → sum-of a xs ≡ total a (tone-at a xs) n
 sum-of-all a xs n e = ap (sum-of a) (sym (take-all n xs (omega arith))) ∙ sum-of-front a xs n (omega arith)
 
--- inside a band the default of a read does not matter
-pub standing-read : (codes : List ℕ) (s : ℕ) → s < length codes → standing codes s ≡ not (eqb (getD codes s 0) 255)
-standing-read codes s h = ap (λ c. not (eqb c 255)) (getD-default codes s 255 0 h)
-
-pub standing-fixed : (codes : List ℕ) (s : ℕ) → s < length codes → (getD codes s 0 ≡ 255 → ⊥) → standing codes s ≡ true
-standing-fixed codes s h ne = standing-read codes s h ∙ ap not (ne-eqb (getD codes s 0) 255 ne)
-
-pub standing-open : (codes : List ℕ) (s : ℕ) → s < length codes → getD codes s 0 ≡ 255 → standing codes s ≡ false
-standing-open codes s h e = standing-read codes s h ∙ ap not (eq-eqb (getD codes s 0) 255 e)
-
 module _ {T : Type 0} (a : Algebra T) (codes : List ℕ) (s : ℕ) (inside : s < length codes) where
   pub output-fixed : (t : Tables T) → (getD codes s 0 ≡ 255 → ⊥) → t .output (getD codes s 0) ≡ output-at a t codes s
   output-fixed t ne =
@@ -70,14 +61,11 @@ module _ {T : Type 0} (a : Algebra T) (codes : List ℕ) (s : ℕ) (inside : s <
 
   -- by the test that the code makes
   module _ (squares : Neighbourhood) (b : Bool) (tested : b ≡ (not (eqb (getD codes s 0) 255) && baron squares s)) where
-    pub lost-read : b ≡ (standing codes s && baron squares s)
-    lost-read = tested ∙ ap (λ f. f && baron squares s) (sym (standing-read codes s inside))
-
     pub loss-lost : (amounts : List T) → b ≡ true → tone-at a amounts s ≡ loss-at a squares codes amounts s
-    loss-lost amounts is = sym (cond-true (standing codes s && baron squares s) (tone-at a amounts s) (a .zero) (sym lost-read ∙ is))
+    loss-lost amounts is = sym (cond-true (standing codes s && baron squares s) (tone-at a amounts s) (a .zero) (sym (lost-read codes s inside squares b tested) ∙ is))
 
     pub loss-kept : (amounts : List T) → b ≡ false → loss-at a squares codes amounts s ≡ a .zero
-    loss-kept amounts is = cond-false (standing codes s && baron squares s) (tone-at a amounts s) (a .zero) (sym lost-read ∙ is)
+    loss-kept amounts is = cond-false (standing codes s && baron squares s) (tone-at a amounts s) (a .zero) (sym (lost-read codes s inside squares b tested) ∙ is)
 
 pub same-totals : {T : Type 0} {d o l m d′ o′ l′ m′ : T} → d ≡ d′ → o ≡ o′ → l ≡ l′ → m ≡ m′ → Totals d o l m ≡ Totals d′ o′ l′ m′
 same-totals p q r s = λ i. Totals (p i) (q i) (r i) (s i)

@@ -3,4 +3,5 @@ mod beside;
 mod job;
 mod kind;
 mod pattern;
+mod record;
 mod totals;
