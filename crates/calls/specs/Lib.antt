@@ -1,0 +1,3 @@
+pub mod Twins
+pub mod Windows
+pub mod Works
