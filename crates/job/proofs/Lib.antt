@@ -1,8 +1,10 @@
+pub mod AnyDrawing
 pub mod Around
 pub mod Attempts
 pub mod Fitting
 pub mod KindLists
 pub mod Parting
+pub mod Passes
 pub mod Readies
 pub mod Refusing
 pub mod Terms

@@ -1,5 +1,6 @@
 pub mod Answers
 pub mod Meaning
 pub mod Patterns
+pub mod Progress
 pub mod Shown
 pub mod Single
