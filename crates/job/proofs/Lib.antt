@@ -1,3 +1,4 @@
+pub mod AnyDrawing
 pub mod Around
 pub mod Attempts
 pub mod Barons
@@ -8,6 +9,7 @@ pub mod Listed
 pub mod Outputs
 pub mod Parting
 pub mod Parts
+pub mod Passes
 pub mod Readies
 pub mod Refusing
 pub mod Standing

@@ -2,6 +2,7 @@
 use grid::Size;
 
 mod baron;
+mod finish;
 mod fix;
 mod follow;
 mod gather;

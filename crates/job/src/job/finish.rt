@@ -1,0 +1,99 @@
+// Finish: every square that is still open, rank by rank.
+ghost use mathlib.Core.Path.{_≡_};
+ghost use Prim.Native.Nat.{_+_, _*_, _<_, _≤_};
+ghost use lib.ListN.{length};
+ghost use Rattle.model.specs.Calls.{told};
+ghost use Rattle.model.specs.Steps.{finish-on};
+ghost use Rattle.job.specs.Answers.{counted};
+ghost use Rattle.job.specs.Meaning.{squares-of, meant, setting-by, band};
+ghost use Rattle.job.specs.Patterns.{Pattern-of};
+ghost use Rattle.job.specs.Progress.{progress, visited, passed-from, passed-below, swept-below};
+use crate::job::Job;
+use crate::pattern::Pattern;
+use plan::Plan;
+use quantiser::Quantiser;
+use refusal::Refusal;
+
+impl<P: Plan, Q: Quantiser> Job<P, Q> {
+    // Fixes the square at a place, whose pattern is told, if it is open and ready, and answers how many were fixed: 1 or 0.
+    fn visit(
+        &self,
+        amounts: &mut [Q::Tone],
+        codes: &mut [u8],
+        place: usize,
+        pattern: &Pattern,
+    ) -> usize
+        requires inside { ⌜ place < now self .size .rows * now self .size .columns ⌝ }
+        requires amounts { ⌜ length (now amounts) ≡ now self .size .rows * now self .size .columns ⌝ }
+        requires codes { ⌜ length (now codes) ≡ now self .size .rows * now self .size .columns ⌝ }
+        requires pattern { ⌜ Pattern-of (squares-of (P·Plan .meaning) (now self)) place (now pattern .kinds) (now pattern .weights) (now pattern .last) ⌝ }
+        ensures few { λ r. ⌜ r ≤ 1 ⌝ }
+        ensures after { λ r. ⌜ progress r (band (now (codes .exit)) (now (amounts .exit))) ≡ visited (setting-by (Tone·Tone .algebra) (P·Plan .meaning) (Q·Quantiser .tables) (now (self .entry))) (squares-of (P·Plan .meaning) (now (self .entry)) .rank place) place (band (now (codes .entry)) (now (amounts .entry))) ⌝ }
+    {
+        match self.settle(amounts, codes, place, pattern) {
+            Ok(_) => 1,
+            Err(_) => 0,
+        }
+    }
+
+    // Fixes the ready squares of one rank in a row, column by column, and answers how many.
+    fn scan_row(&self, amounts: &mut [Q::Tone], codes: &mut [u8], rank: u8, row: usize) -> usize
+        requires row { ⌜ row < now self .size .rows ⌝ }
+        requires amounts { ⌜ length (now amounts) ≡ now self .size .rows * now self .size .columns ⌝ }
+        requires codes { ⌜ length (now codes) ≡ now self .size .rows * now self .size .columns ⌝ }
+        ensures few { λ r. ⌜ r ≤ now (self .entry) .size .columns ⌝ }
+        ensures after { λ r. ⌜ progress r (band (now (codes .exit)) (now (amounts .exit))) ≡ passed-from (setting-by (Tone·Tone .algebra) (P·Plan .meaning) (Q·Quantiser .tables) (now (self .entry))) rank (row * now (self .entry) .size .columns) (now (self .entry) .size .columns) (band (now (codes .entry)) (now (amounts .entry))) ⌝ }
+    {
+        let start = row * self.size.columns;
+        let mut count = 0;
+        for column in 0..self.size.columns {
+            if self.plan.rank(row, column) == rank {
+                let pattern = self.pattern(row, column);
+                count += self.visit(amounts, codes, start + column, &pattern);
+            }
+        }
+        count
+    }
+
+    // Fixes the ready squares of one rank in reading order, and answers how many.
+    fn pass(&self, amounts: &mut [Q::Tone], codes: &mut [u8], rank: u8) -> usize
+        requires amounts { ⌜ length (now amounts) ≡ now self .size .rows * now self .size .columns ⌝ }
+        requires codes { ⌜ length (now codes) ≡ now self .size .rows * now self .size .columns ⌝ }
+        ensures few { λ r. ⌜ r ≤ now (self .entry) .size .rows * now (self .entry) .size .columns ⌝ }
+        ensures after { λ r. ⌜ progress r (band (now (codes .exit)) (now (amounts .exit))) ≡ passed-below (setting-by (Tone·Tone .algebra) (P·Plan .meaning) (Q·Quantiser .tables) (now (self .entry))) rank (now (self .entry) .size .rows * now (self .entry) .size .columns) (band (now (codes .entry)) (now (amounts .entry))) ⌝ }
+    {
+        let mut count = 0;
+        for row in 0..self.size.rows {
+            count += self.scan_row(amounts, codes, rank, row);
+        }
+        count
+    }
+
+    // One pass for each rank from 0 to the top: all lower neighbours of a square are fixed before its own rank.
+    fn sweep(&self, amounts: &mut [Q::Tone], codes: &mut [u8]) -> usize
+        requires amounts { ⌜ length (now amounts) ≡ now self .size .rows * now self .size .columns ⌝ }
+        requires codes { ⌜ length (now codes) ≡ now self .size .rows * now self .size .columns ⌝ }
+        ensures { λ r. ⌜ progress r (band (now (codes .exit)) (now (amounts .exit))) ≡ swept-below (setting-by (Tone·Tone .algebra) (P·Plan .meaning) (Q·Quantiser .tables) (now (self .entry))) (P·Plan .meaning (now (self .entry) .plan) .top + 1) (band (now (codes .entry)) (now (amounts .entry))) ⌝ }
+    {
+        let mut count = 0;
+        for rank in 0..=self.plan.top() {
+            count += self.pass(amounts, codes, rank);
+        }
+        count
+    }
+
+    // Fixes every ready square, rank by rank, and answers how many: 2 for the bands.
+    pub(crate) fn finish(
+        &self,
+        drawing: &[Q::Tone],
+        amounts: &mut [Q::Tone],
+        codes: &mut [u8],
+    ) -> Result<usize, Refusal>
+        ensures { λ r. ⌜ told (counted r) (band (now (codes .exit)) (now (amounts .exit))) ≡ finish-on (meant (Tone·Tone .algebra) (P·Plan .meaning) (Q·Quantiser .tables) (now (self .entry)) (now (drawing .entry))) (band (now (codes .entry)) (now (amounts .entry))) ⌝ }
+    {
+        if !self.lengths_match(drawing, amounts, codes) {
+            return Err(Refusal::BandLength);
+        }
+        Ok(self.sweep(amounts, codes))
+    }
+}
