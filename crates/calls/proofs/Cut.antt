@@ -22,18 +22,21 @@ module _ {X : Type 0} (w : Window) (xs : List X) where
   -- the cut start drops and takes the same
   drop-low : drop (low-end w (length xs)) xs ≡ drop (w .start) xs
   drop-low = elim (cases-lt (w .start) (length xs)) [
-      inl l ↦ ap (λ n. drop n xs) (cond-true (ltb (w .start) (length xs)) _ _ (lt-ltb _ _ l))
-    | inr l ↦ ap (λ n. drop n xs) (cond-false (ltb (w .start) (length xs)) _ _ (le-ltb _ _ l)) ∙ drop-all (length xs) xs (omega arith) ∙ sym (drop-all (w .start) xs l) ]
+    | inl l ↦ ap (λ n. drop n xs) (cond-true (ltb (w .start) (length xs)) _ _ (lt-ltb _ _ l))
+    | inr l ↦ ap (λ n. drop n xs) (cond-false (ltb (w .start) (length xs)) _ _ (le-ltb _ _ l)) ∙ drop-all (length xs) xs (omega arith) ∙ sym (drop-all (w .start) xs l)
+  ]
 
   take-low : take (low-end w (length xs)) xs ≡ take (w .start) xs
   take-low = elim (cases-lt (w .start) (length xs)) [
-      inl l ↦ ap (λ n. take n xs) (cond-true (ltb (w .start) (length xs)) _ _ (lt-ltb _ _ l))
-    | inr l ↦ ap (λ n. take n xs) (cond-false (ltb (w .start) (length xs)) _ _ (le-ltb _ _ l)) ∙ take-all (length xs) xs (omega arith) ∙ sym (take-all (w .start) xs l) ]
+    | inl l ↦ ap (λ n. take n xs) (cond-true (ltb (w .start) (length xs)) _ _ (lt-ltb _ _ l))
+    | inr l ↦ ap (λ n. take n xs) (cond-false (ltb (w .start) (length xs)) _ _ (le-ltb _ _ l)) ∙ take-all (length xs) xs (omega arith) ∙ sym (take-all (w .start) xs l)
+  ]
 
   pub low-le : low-end w (length xs) ≤ length xs
   low-le = elim (cases-lt (w .start) (length xs)) [
-      inl l ↦ omega (arith, cond-true (ltb (w .start) (length xs)) (w .start) (length xs) (lt-ltb _ _ l))
-    | inr l ↦ omega (arith, cond-false (ltb (w .start) (length xs)) (w .start) (length xs) (le-ltb _ _ l)) ]
+    | inl l ↦ omega (arith, cond-true (ltb (w .start) (length xs)) (w .start) (length xs) (lt-ltb _ _ l))
+    | inr l ↦ omega (arith, cond-false (ltb (w .start) (length xs)) (w .start) (length xs) (le-ltb _ _ l))
+  ]
 
   -- the cut length, of what is left
   cut : ℕ
@@ -42,20 +45,23 @@ module _ {X : Type 0} (w : Window) (xs : List X) where
   cut-cases : (cut ≡ w .length) ⊎ ((length xs - low-end w (length xs) ≤ w .length) × (cut ≡ length xs - low-end w (length xs)))
   unfolding cut
   cut-cases = elim (cases-lt (w .length) (length xs - low-end w (length xs))) [
-      inl l ↦ (let e = cond-true (ltb (w .length) (length xs - low-end w (length xs))) (low-end w (length xs) + w .length) (length xs) (lt-ltb _ _ l) in inl (omega (arith, e)))
-    | inr l ↦ (let e = cond-false (ltb (w .length) (length xs - low-end w (length xs))) (low-end w (length xs) + w .length) (length xs) (le-ltb _ _ l) in inr (l, ap (λ n. n - low-end w (length xs)) e)) ]
+    | inl l ↦ (let e = cond-true (ltb (w .length) (length xs - low-end w (length xs))) (low-end w (length xs) + w .length) (length xs) (lt-ltb _ _ l) in inl (omega (arith, e)))
+    | inr l ↦ (let e = cond-false (ltb (w .length) (length xs - low-end w (length xs))) (low-end w (length xs) + w .length) (length xs) (le-ltb _ _ l) in inr (l, ap (λ n. n - low-end w (length xs)) e))
+  ]
 
   take-cut : take cut (drop (low-end w (length xs)) xs) ≡ take (w .length) (drop (low-end w (length xs)) xs)
   take-cut = elim cut-cases [
-      inl e ↦ ap (λ n. take n (drop (low-end w (length xs)) xs)) e
+    | inl e ↦ ap (λ n. take n (drop (low-end w (length xs)) xs)) e
     | inr q ↦ (let long = length-drop (low-end w (length xs)) xs in
-        take-all cut _ (omega (arith, long, q .1)) ∙ sym (take-all (w .length) _ (omega (arith, long, q .0)))) ]
+        take-all cut _ (omega (arith, long, q .1)) ∙ sym (take-all (w .length) _ (omega (arith, long, q .0))))
+  ]
 
   drop-cut : drop cut (drop (low-end w (length xs)) xs) ≡ drop (w .length) (drop (low-end w (length xs)) xs)
   drop-cut = elim cut-cases [
-      inl e ↦ ap (λ n. drop n (drop (low-end w (length xs)) xs)) e
+    | inl e ↦ ap (λ n. drop n (drop (low-end w (length xs)) xs)) e
     | inr q ↦ (let long = length-drop (low-end w (length xs)) xs in
-        drop-all cut _ (omega (arith, long, q .1)) ∙ sym (drop-all (w .length) _ (omega (arith, long, q .0)))) ]
+        drop-all cut _ (omega (arith, long, q .1)) ∙ sym (drop-all (w .length) _ (omega (arith, long, q .0))))
+  ]
 
   pub inside-cut : (low high : ℕ) → low ≡ low-end w (length xs) → high ≡ high-end w (length xs) → take (high - low) (drop low xs) ≡ inside (window-of w) xs
   unfolding cut
@@ -82,4 +88,4 @@ pub losses-cut : {T : Type 0} (p : Job T) (b : Bands T) (w v : Window) (places :
 losses-cut p b w v places errors low high from to a ps es k m q r e =
     ap₂ (listed a) (refill-cut w places low high ps k m) (refill-cut v errors from to es q r)
     ∙ ap (λ x. listed (x .answer) (refill (window-of w) places (x .places)) (refill (window-of v) errors (x .errors)))
-        (e ∙ ap₂ (losses-on p b) (inside-cut w places low high k m) (inside-cut v errors from to q r))
+    (e ∙ ap₂ (losses-on p b) (inside-cut w places low high k m) (inside-cut v errors from to q r))

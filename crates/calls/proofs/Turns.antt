@@ -29,19 +29,19 @@ module _ {T : Type 0} (p : Job T) (calls : List Call) (old : List (Answer T)) (w
       → Turn i list b o → Turn (i + 1) (set list i a) b′ o′
   unfolding run
   turn i c list a b b′ o o′ l h at e k = record {
-      rest =
+    rest =
         ap (λ xs. onto xs (run (step p) (map call-of (drop (i + 1) calls)) b′ o′)) (take-more-set list i a h)
         ∙ (λ j. record { answers = front j; state = run (step p) (map call-of (drop (i + 1) calls)) b′ o′ .state; pools = run (step p) (map call-of (drop (i + 1) calls)) b′ o′ .pools })
         ∙ ap (λ (d : Done T (Bands T)). onto (take i list) (ran-more (d .answer) (run (step p) (map call-of (drop (i + 1) calls)) (d .state) (d .pools)))) e
         ∙ ap (λ cs. onto (take i list) (run (step p) (map call-of cs) b o)) (sym (drop-more calls i c l ∙ ap (λ x. x ∷ drop (i + 1) calls) (sym at)))
         ∙ k .rest;
-      same = drop-set-lt (i + 1) list i a (omega arith) ∙ sym (drop-drop 1 i list) ∙ ap (drop 1) (k .same) ∙ drop-drop 1 i old;
-    }
+    same = drop-set-lt (i + 1) list i a (omega arith) ∙ sym (drop-drop 1 i list) ∙ ap (drop 1) (k .same) ∙ drop-drop 1 i old;
+  }
     where
       front : map answer-of (take i list ++ a ∷ []) ++ run (step p) (map call-of (drop (i + 1) calls)) b′ o′ .answers
           ≡ map answer-of (take i list) ++ (answer-of a ∷ run (step p) (map call-of (drop (i + 1) calls)) b′ o′ .answers)
       front = ap (λ xs. xs ++ run (step p) (map call-of (drop (i + 1) calls)) b′ o′ .answers) (map-append answer-of (take i list) (a ∷ []))
-        ∙ append-assoc (map answer-of (take i list)) (answer-of a ∷ []) _
+          ∙ append-assoc (map answer-of (take i list)) (answer-of a ∷ []) _
 
   pub turn-by : (i : ℕ) (c : Call) (list list′ : List (Answer T)) (a : Answer T) (b b′ : Bands T) (o o′ : Pools T)
       → i < length calls → i < length list → c ≡ getD calls i c → done (answer-of a) b′ o′ ≡ step p (call-of c) b o → list′ ≡ set list i a
@@ -56,6 +56,7 @@ module _ {T : Type 0} (p : Job T) (calls : List Call) (old : List (Answer T)) (w
     where
       size : length (map answer-of (take i list) ++ []) ≡ i
       size = ap length (append-nil (map answer-of (take i list))) ∙ length-map (take i list) answer-of ∙ length-take-le i list h
+
       parts : map answer-of list ≡ (map answer-of (take i list) ++ []) ++ map answer-of (drop (length (map answer-of (take i list) ++ [])) old)
       parts =
           ap (map answer-of) (sym (take-append-drop i list))

@@ -37,7 +37,17 @@ fn put<X: Copy>(list: &mut [X], at: usize, x: X)
 }
 
 // Works the calls in turn on a job, refused ones included.
-fn work_on<P: Plan, Q: Quantiser>(job: &Job<P, Q>, drawing: &[Q::Tone], amounts: &mut [Q::Tone], codes: &mut [u8], bytes: &mut [u8], places: &mut [usize], errors: &mut [Q::Tone], calls: &[Call<'_>], answers: &mut [Answer<Q::Tone>])
+fn work_on<P: Plan, Q: Quantiser>(
+    job: &Job<P, Q>,
+    drawing: &[Q::Tone],
+    amounts: &mut [Q::Tone],
+    codes: &mut [u8],
+    bytes: &mut [u8],
+    places: &mut [usize],
+    errors: &mut [Q::Tone],
+    calls: &[Call<'_>],
+    answers: &mut [Answer<Q::Tone>],
+)
     requires { ⌜ length (now calls) ≤ length (now answers) ⌝ }
     ensures { λ _. ⌜ ran-of (now (answers .exit)) (band (now (codes .exit)) (now (amounts .exit))) (pools (now (bytes .exit)) (now (places .exit)) (now (errors .exit))) ≡ filled (run (step (meant (Tone·Tone .algebra) (P·Plan .meaning) (Q·Quantiser .tables) (now (job .entry)) (now (drawing .entry)))) (map call-of (now (calls .entry))) (band (now (codes .entry)) (now (amounts .entry))) (pools (now (bytes .entry)) (now (places .entry)) (now (errors .entry)))) (now (answers .entry)) ⌝ }
 {
@@ -50,7 +60,20 @@ fn work_on<P: Plan, Q: Quantiser>(job: &Job<P, Q>, drawing: &[Q::Tone], amounts:
 
 // Opens a new job and works the calls on it in turn: 0, or the number of a refusal. 6 comes before anything where the list for the answers is
 // too short; where Open is refused, no call is made. Halt writes into windows of `bytes`, Losses into windows of `places` and `errors`.
-pub fn work<P: Plan + Drop, Q: Quantiser + Drop>(rows: usize, columns: usize, plan: P, quantiser: Q, drawing: &[Q::Tone], amounts: &mut [Q::Tone], codes: &mut [u8], bytes: &mut [u8], places: &mut [usize], errors: &mut [Q::Tone], calls: &[Call<'_>], answers: &mut [Answer<Q::Tone>]) -> u8
+pub fn work<P: Plan + Drop, Q: Quantiser + Drop>(
+    rows: usize,
+    columns: usize,
+    plan: P,
+    quantiser: Q,
+    drawing: &[Q::Tone],
+    amounts: &mut [Q::Tone],
+    codes: &mut [u8],
+    bytes: &mut [u8],
+    places: &mut [usize],
+    errors: &mut [Q::Tone],
+    calls: &[Call<'_>],
+    answers: &mut [Answer<Q::Tone>],
+) -> u8
     ensures number { λ r. ⌜ r ≡ cond (leb (length (now (calls .entry))) (length (now (answers .entry)))) (open-refusal rows columns (length (now (drawing .entry))) (length (now (amounts .entry))) (length (now (codes .entry)))) 6 ⌝ }
     ensures kept { λ r. ⌜ (r ≡ 0 → Promise (job-of (Tone·Tone .algebra) rows columns (P·Plan .meaning plan) (Q·Quantiser .tables quantiser) (now (drawing .entry))) (now (calls .entry)) (now (answers .entry)) (now (answers .exit)) (pools (now (bytes .entry)) (now (places .entry)) (now (errors .entry))) (pools (now (bytes .exit)) (now (places .exit)) (now (errors .exit))) (band (now (codes .exit)) (now (amounts .exit)))) ⌝ }
     ensures refused { λ r. ⌜ ((r ≡ 0 → ⊥) → ran-of (now (answers .exit)) (band (now (codes .exit)) (now (amounts .exit))) (pools (now (bytes .exit)) (now (places .exit)) (now (errors .exit))) ≡ ran-of (now (answers .entry)) (band (now (codes .entry)) (now (amounts .entry))) (pools (now (bytes .entry)) (now (places .entry)) (now (errors .entry)))) ⌝ }
@@ -62,6 +85,16 @@ pub fn work<P: Plan + Drop, Q: Quantiser + Drop>(rows: usize, columns: usize, pl
     if refusal != 0 {
         return refusal;
     }
-    work_on(&job, drawing, amounts, codes, bytes, places, errors, calls, answers);
+    work_on(
+        &job,
+        drawing,
+        amounts,
+        codes,
+        bytes,
+        places,
+        errors,
+        calls,
+        answers,
+    );
     0
 }

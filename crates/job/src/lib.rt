@@ -5,3 +5,7 @@ mod kind;
 mod pattern;
 mod record;
 mod totals;
+
+pub use job::Job;
+pub use totals::Totals;
+pub use totals::TotalsClone;

@@ -83,7 +83,7 @@ impl<P: Plan, Q: Quantiser> Job<P, Q> {
     }
 
     // Fixes every ready square, rank by rank, and answers how many: 2 for the bands.
-    pub(crate) fn finish(
+    pub fn finish(
         &self,
         drawing: &[Q::Tone],
         amounts: &mut [Q::Tone],

@@ -65,7 +65,7 @@ impl<P: Plan, Q: Quantiser> Job<P, Q> {
     }
 
     // Fixes the square at a row and a column: 2 for the bands, 3 outside the drawing, 4 where it is fixed, 5 where a lower neighbour is open.
-    pub(crate) fn fix(
+    pub fn fix(
         &self,
         drawing: &[Q::Tone],
         amounts: &mut [Q::Tone],

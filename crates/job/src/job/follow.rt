@@ -36,7 +36,7 @@ impl<P: Plan, Q: Quantiser> Job<P, Q> {
     }
 
     // Fixes the squares at the places of a list in turn, up to the first refusal: how many were accepted, and the refusal's number or 0.
-    pub(crate) fn follow(
+    pub fn follow(
         &self,
         drawing: &[Q::Tone],
         amounts: &mut [Q::Tone],

@@ -17,7 +17,7 @@ use refusal::Refusal;
 
 impl<P: Plan, Q: Quantiser> Job<P, Q> {
     // Writes the record to the front of the output and answers its length. An output that is too short stays as it was.
-    pub(crate) fn halt(
+    pub fn halt(
         &self,
         drawing: &[Q::Tone],
         amounts: &[Q::Tone],

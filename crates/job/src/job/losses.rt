@@ -94,7 +94,7 @@ impl<P: Plan, Q: Quantiser> Job<P, Q> {
     }
 
     // Lists place and error of each fixed baron by rising place, and answers how many there are. Where one list is too short both stay as they were.
-    pub(crate) fn losses(
+    pub fn losses(
         &self,
         drawing: &[Q::Tone],
         amounts: &[Q::Tone],

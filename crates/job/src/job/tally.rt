@@ -81,7 +81,7 @@ impl<P: Plan, Q: Quantiser> Job<P, Q> {
     }
 
     // The totals of the drawing, of the outputs and the losses of fixed squares, and of the amounts of open ones.
-    pub(crate) fn tally(
+    pub fn tally(
         &self,
         drawing: &[Q::Tone],
         amounts: &[Q::Tone],
