@@ -2,7 +2,6 @@ use mathlib.Core.Path.{_≡_, sym, ap, _∙_}
 use Prim.Native.Nat.{_*_}
 use native.Mathlib.Nat.{zero-mul}
 use native.Mathlib.Omega.{arith}
-use Rattle.tone.specs.Sums.{total}
 use Rattle.tone.proofs.Totals.{total-none}
 use Rattle.job.specs.Meaning.{squares-of}
 use Rattle.job.specs.Shown.{loss-at}
