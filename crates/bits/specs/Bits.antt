@@ -1,7 +1,8 @@
 -- Bits in bytes, eight to a byte, high bit first, spare bits 0.
+use mathlib.Core.Path.{_≡_}
 use mathlib.Core.Bool.{Bool, cond, not, _&&_}
 use mathlib.Core.List.{List, map}
-use Prim.Native.Nat.{ℕ, zero, suc, _+_, _*_, _/_}
+use Prim.Native.Nat.{ℕ, zero, suc, _+_, _-_, _*_, _/_, _%_, _^_, _<_}
 use lib.Dec.{eqb, ltb}
 use lib.ListN.{length, getD, drop}
 use Rattle.std.specs.Iters.{counting}
@@ -33,3 +34,11 @@ bytes-for n = (n + 7) / 8
 -- n bytes of bits: byte b has those of the codes 8 b, 8 b + 1, .., 8 b + 7
 abbrev pub packed : (ℕ → Bool) → ℕ → List ℕ → List ℕ
 packed marks n codes = map (λ b. byte-of marks (drop (8 * b) codes)) (counting 0 n)
+
+-- bit k of bytes, read by division: bit 0 is the highest of the first byte
+abbrev pub bit-in : List ℕ → ℕ → ℕ
+bit-in bytes k = getD bytes (k / 8) 0 / 2 ^ (7 - k % 8) % 2
+
+-- bit k of packed codes is that of the code at k, and 0 behind the codes
+abbrev pub Every-bit-is-kept : Type 0
+Every-bit-is-kept = (marks : ℕ → Bool) (n : ℕ) (codes : List ℕ) (k : ℕ) → k < 8 * n → bit-in (packed marks n codes) k ≡ bit-at marks codes k

@@ -116,7 +116,7 @@ module _ {T : Type 0} (j : Setting T) (lawful : Lawful j) (wanted : ℕ → Bool
       let v = visited r (pass (j .squares) wanted r F n) n (k .1) (omega arith) in
       (ap (λ b. visit-in j wanted r b n) (k .0) ∙ v .0, v .1)
 
-  sweep-bands : (F : ℕ → Bool) → Closed (j .squares) F → (r : ℕ)
+  pub sweep-bands : (F : ℕ → Bool) → Closed (j .squares) F → (r : ℕ)
       → (sweep-in j wanted (bands j F) r ≡ bands j (sweep (j .squares) wanted F r)) × Closed (j .squares) (sweep (j .squares) wanted F r)
   unfolding sweep-in sweep
   sweep-bands F closed zero = (refl, closed)

@@ -25,7 +25,7 @@ use Rattle.diffusion.specs.Drawings.{laid-out}
 use Rattle.diffusion.specs.Theorems.{Lays-out, Lawful-drawing}
 
 -- each of eight directions
-by-eight : (P : ℕ → Type 0) → P 0 → P 1 → P 2 → P 3 → P 4 → P 5 → P 6 → P 7 → (d : ℕ) → d < 8 → P d
+pub by-eight : (P : ℕ → Type 0) → P 0 → P 1 → P 2 → P 3 → P 4 → P 5 → P 6 → P 7 → (d : ℕ) → d < 8 → P d
 by-eight P a b c d e f g h ℕ.zero l = a
 by-eight P a b c d e f g h (suc ℕ.zero) l = b
 by-eight P a b c d e f g h (suc (suc ℕ.zero)) l = c
@@ -58,7 +58,7 @@ both-some w None b t h = let z : _≡_ {A = ℕ} 0 1 = cc in absurd (omega arith
 both-some w (Some r) None t h = let z : _≡_ {A = ℕ} 0 1 = cc in absurd (omega arith)
 both-some w (Some r) (Some c) t h = (r, c, refl, refl, cc)
 
-wide-enough : (h w s : ℕ) → s < h * w → 0 < w
+pub wide-enough : (h w s : ℕ) → s < h * w → 0 < w
 wide-enough h ℕ.zero s l = absurd (omega (arith, mul-zero h))
 wide-enough h (suc w) s l = omega arith
 
@@ -172,6 +172,8 @@ lays-out rows columns plan lawful = record {
   laws = laid-out-laws (plain rows) (plain columns) (plain-laws rows) (plain-laws columns) plan (λ d r c r′ c′ ld lr lc hr hc.
       lawful .apart r c r′ c′ (touching r c r′ c′ d ld (plain-stepped rows (down d) r r′ lr hr .0) (plain-stepped columns (across d) c c′ lc hc .0)));
   capped = λ s l. lawful .capped (s / columns) (s % columns);
+  near = λ r c d l. ap₂ (λ x y. neighbour (plain rows) (plain columns) x y d) (div-mul-add r columns c l) (mod-mul-add r columns c l);
+  rank = λ r c l. ap₂ (plan .rank) (div-mul-add r columns c l) (mod-mul-add r columns c l);
 }
 
 pub lawful-drawing : {T : Type 0} (tone : Algebra T) → tones.Lawful tone → (plan : Ranks) → plans.Lawful plan → (tables : Tables T) → Sound tone tables

@@ -24,7 +24,7 @@ abbrev Rising : List ℕ → Type 0
 Rising xs = (i k : ℕ) → i < k → k < length xs → getD xs i 0 < getD xs k 0
 
 module _ (squares : Neighbourhood) where
-  lost-same : (F G : ℕ → Bool) (n : ℕ) → ((s : ℕ) → s < n → F s ≡ G s) → lost squares F n ≡ lost squares G n
+  pub lost-same : (F G : ℕ → Bool) (n : ℕ) → ((s : ℕ) → s < n → F s ≡ G s) → lost squares F n ≡ lost squares G n
   unfolding lost
   lost-same F G zero h = refl
   lost-same F G (suc n) h = ap₂ (λ xs b. xs ++ cond (b && baron squares n) (n ∷ []) []) (lost-same F G n (λ s l. h s (omega arith))) (h n (omega arith))

@@ -2,7 +2,7 @@
 use mathlib.Core.Path.{_≡_}
 use mathlib.Core.Bool.{Bool, true, false, cond}
 use mathlib.Core.List.{List, map}
-use Prim.Native.Nat.{ℕ, suc, _<_, _≤_}
+use Prim.Native.Nat.{ℕ, suc, _+_, _*_, _<_, _≤_}
 use lib.Dec.{eqb}
 use lib.ListN.{length, getD}
 use Rattle.std.specs.Options.{isSome}
@@ -14,6 +14,8 @@ use Rattle.tone.specs.Sums.{sum-of, total}
 use Rattle.plan.specs.Ranks as plans
 use Rattle.quantiser.specs.Tables.{Tables, Sound}
 use Rattle.grid.specs.Directions.{weight}
+use Rattle.grid.specs.Lines.{plain}
+use Rattle.grid.specs.Neighbours.{neighbour}
 use Rattle.diffusion.specs.Bands.{Bands, bands, opened, standing, fixed-in, fixed-all}
 use Rattle.diffusion.specs.Draft.{Setting, Lawful, due-amount, amount, code, error, sends}
 use Rattle.diffusion.specs.Drawings.{plain-drawing, setting-of}
@@ -176,6 +178,9 @@ Draft-depends-on-order-and-tables T = (j k : Setting T) → Laws (j .squares) �
 pub record Lays-out (rows columns : ℕ) (plan : plans.Ranks) : Type 0 where
   pub laws : Laws (plain-drawing rows columns plan)
   pub capped : Capped (plain-drawing rows columns plan) (plan .top)
+  -- the place of a row and a column has the neighbours and the rank of that row and column
+  pub near : (r c d : ℕ) → c < columns → plain-drawing rows columns plan .near (r * columns + c) d ≡ neighbour (plain rows) (plain columns) r c d
+  pub rank : (r c : ℕ) → c < columns → plain-drawing rows columns plan .rank (r * columns + c) ≡ plan .rank r c
 
 abbrev pub Plain-drawing-keeps-the-laws : Type 0
 Plain-drawing-keeps-the-laws = (rows columns : ℕ) (plan : plans.Ranks) → plans.Lawful plan → Lays-out rows columns plan

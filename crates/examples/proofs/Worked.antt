@@ -20,9 +20,16 @@ use Rattle.quantiser.specs.Least.{least}
 use Rattle.quantiser.specs.Palette.{by-palette, distance, entry-of, Written}
 use Rattle.quantiser.specs.declared.palette.Palette.{Palette}
 use Rattle.grid.specs.Limits as sizes
+use Rattle.bits.specs.Bits.{binary}
 use Rattle.diffusion.specs.Draft.{sends, gather, amount-by, amount}
+use Rattle.diffusion.specs.Bands.{code-at, amount-at, spread}
 use Rattle.diffusion.specs.Neighbourhoods.{lower, higher, weights, last}
+use Rattle.diffusion.specs.Sets.{ready-by}
+use Rattle.diffusion.specs.Sweeps.{pass-in, passed-in, sweep-in, swept-in}
 use Rattle.diffusion.specs.Tallies.{lost}
+use Rattle.model.specs.Fixes.{refusal, follow-in}
+use Rattle.model.specs.Records.{stand-below, all-below, record-refusal}
+use Rattle.model.specs.Runs.{run}
 use Rattle.examples.specs.Examples.{Holds, examples}
 
 largest : sizes.Within 4096 256
@@ -67,7 +74,7 @@ tie p is =
     ∙ first-of-two (λ k. distance x (entry-of p k)) 127 (ap (distance x) (is .colours 0 (omega arith))) (ap (distance x) (is .colours 1 (omega arith)))
 
 pub all-hold : All Holds examples
-unfolding wrapped knuth-rows corner-rank doubling total lower higher weights last sends gather amount-by amount lost
+unfolding wrapped knuth-rows corner-rank doubling total lower higher weights last sends gather amount-by amount lost spread code-at amount-at ready-by pass-in passed-in sweep-in swept-in refusal follow-in binary stand-below all-below record-refusal run
 all-hold = (
   largest,
   (
@@ -90,7 +97,7 @@ all-hold = (
                     refl,
                     (
                       tie,
-                      (record { codes = refl; errors = refl; barons = refl }, (record { codes = refl; errors = refl; barons = refl }, tt)),
+                      (record { codes = refl; errors = refl; barons = refl }, (record { codes = refl; errors = refl; barons = refl }, (refl, (refl, (refl, tt))))),
                     ),
                   ),
                 ),

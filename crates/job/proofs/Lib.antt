@@ -1,8 +1,14 @@
+pub mod Around
+pub mod Attempts
 pub mod Barons
 pub mod Fitting
 pub mod Kept
+pub mod KindLists
 pub mod Listed
 pub mod Outputs
+pub mod Parting
 pub mod Parts
+pub mod Readies
+pub mod Refusing
 pub mod Standing
 pub mod Terms

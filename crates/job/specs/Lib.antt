@@ -3,3 +3,4 @@ pub mod Listings
 pub mod Meaning
 pub mod Patterns
 pub mod Shown
+pub mod Single

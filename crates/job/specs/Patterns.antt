@@ -34,7 +34,7 @@ kind-at plan own (Some r) (Some c) = compared own (plan .rank r c)
 -- the place beside s, where there is a neighbour, in a drawing with so many columns
 abbrev pub beside : ℕ → ℕ → ℕ → ℕ
 beside columns s d =
-    getD (s - columns ∷ s - columns + 1 ∷ s + 1 ∷ s + columns + 1 ∷ s + columns ∷ s + columns - 1 ∷ s - 1 ∷ s - (columns + 1) ∷ []) d 0
+    getD ((s - columns) ∷ (s - columns + 1) ∷ (s + 1) ∷ (s + columns + 1) ∷ (s + columns) ∷ (s + columns - 1) ∷ (s - 1) ∷ (s - (columns + 1)) ∷ []) d 0
 
 -- the weight of a direction with a higher neighbour; 0 for another
 abbrev pub kind-weight : Kind → ℕ → ℕ
@@ -62,3 +62,14 @@ pub record Pattern-of (squares : Neighbourhood) (s : ℕ) (ks : List Kind) (w l 
   pub kinds : (d : ℕ) → d < 8 → getD ks d Neither ≡ kind-of squares s d
   pub weights : w ≡ weights squares s 8
   pub last : l ≡ last squares s 8
+
+-- the place of a lower neighbour, or of a higher one, by what lies there
+abbrev pub lower-place : Kind → ℕ → Option ℕ
+lower-place Neither t = None
+lower-place Lower t = Some t
+lower-place Higher t = None
+
+abbrev pub higher-place : Kind → ℕ → Option ℕ
+higher-place Neither t = None
+higher-place Lower t = None
+higher-place Higher t = Some t

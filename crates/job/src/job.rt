@@ -3,10 +3,12 @@ use grid::Size;
 
 mod baron;
 mod fix;
+mod follow;
 mod gather;
 mod halt;
 mod lengths;
 mod losses;
+mod open;
 mod spread;
 mod tally;
 

@@ -1,0 +1,11 @@
+pub mod Agreed
+pub mod Binaries
+pub mod Followed
+pub mod Halted
+pub mod Kept
+pub mod OneMore
+pub mod Opened
+pub mod Reached
+pub mod Recorded
+pub mod Replayed
+pub mod Resumed

@@ -3,5 +3,7 @@ pub mod Fixes
 pub mod Jobs
 pub mod Openings
 pub mod Records
+pub mod Replays
 pub mod Runs
 pub mod Steps
+pub mod Theorems

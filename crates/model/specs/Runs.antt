@@ -1,4 +1,4 @@
--- T list of calls, in turn.
+-- A list of calls, in turn.
 use mathlib.Core.List.{List, [], _∷_}
 use Rattle.model.specs.Calls.{Call, Answer, Pools, Done}
 

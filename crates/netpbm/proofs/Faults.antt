@@ -15,8 +15,8 @@ use Rattle.std.specs.declared.option.Option.the-variants.{Some, None}
 use Rattle.std.proofs.shelf.Tests.{cases-eq, and-right}
 use Rattle.std.proofs.shelf.Lists.{take-more-set, drop-set-lt, drop-drop, take-append-drop, getD-past}
 use Rattle.std.proofs.shelf.Counted.{map-counting-more}
-use Rattle.netpbm.specs.Words.{separator, after}
-use Rattle.netpbm.specs.Pgm.{Told, or-else, begins, greatest-in, sample-fault, first-fault, sound, tone-in, filled}
+use Rattle.netpbm.specs.Words.{separator, after, stop, value-at}
+use Rattle.netpbm.specs.Pgm.{Told, or-else, begins, greatest-in, sample-fault, first-fault, sound, tone-of, tone-in, filled}
 
 -- the fault of sample n
 abbrev pub fault-of : List ℕ → ℕ → Option Told
@@ -71,3 +71,13 @@ short-begins input h =
 
 pub sample-fault-is : (xs ys : List ℕ) (g m p q : ℕ) → xs ≡ ys → g ≡ m → p ≡ q → sample-fault xs g p ≡ sample-fault ys m q
 sample-fault-is xs ys g m p q a b c = ap (λ l. sample-fault l g p) a ∙ ap (λ n. sample-fault ys n p) b ∙ ap (λ n. sample-fault ys m n) c
+
+-- the tone made of the number that stands next
+pub tone-is : (xs ys : List ℕ) (p i v t : ℕ) → xs ≡ ys → p ≡ after ys (3 + i) → v ≡ value-at xs p → t ≡ tone-of v → t ≡ tone-in ys i
+tone-is xs ys p i v t a b c d = d ∙ ap tone-of c ∙ ap (λ l. tone-of (value-at l p)) a ∙ ap (λ n. tone-of (value-at ys n)) b
+
+-- behind sample i comes sample i + 1
+pub next-is : (xs ys : List ℕ) (p i q : ℕ) → xs ≡ ys → p ≡ after ys (3 + i) → q ≡ stop xs p → q ≡ after ys (3 + (i + 1))
+next-is xs ys p i q a b c =
+    let next : suc (3 + i) ≡ 3 + (i + 1) = omega arith in
+    c ∙ ap (λ l. stop l p) a ∙ ap (stop ys) b ∙ ap (after ys) next

@@ -1,6 +1,10 @@
+pub mod Accepted
 pub mod Faults
 pub mod HeaderLength
+pub mod Numbers
 pub mod Parts
+pub mod ReadBack
 pub mod Refusing
 pub mod Rows
+pub mod Squares
 pub mod Words

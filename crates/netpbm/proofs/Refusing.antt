@@ -1,11 +1,11 @@
 -- The refusals of Pack, from the tests that it makes.
 use mathlib.Core.Path.{_≡_, sym, ap, _∙_}
 use mathlib.Core.Bool.{cond}
-use mathlib.Core.List.{List, _++_}
+use mathlib.Core.List.{List}
 use Prim.Native.Nat.{ℕ, _+_, _*_, _<_, _≤_}
 use native.Mathlib.Omega.{arith}
 use lib.Dec.{ltb}
-use lib.ListN.{length, drop}
+use lib.ListN.{length}
 use Rattle.std.proofs.shelf.Tests.{cond-true, cond-false, eq-eqb, le-ltb, lt-ltb}
 use Rattle.bits.specs.Bits.{bytes-for}
 use Rattle.netpbm.specs.Pbm.{header, pbm, codes-refusal, pack-refusal}

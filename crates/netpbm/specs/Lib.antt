@@ -1,3 +1,4 @@
+pub mod Files
 pub mod Pbm
 pub mod Pgm
 pub mod Words

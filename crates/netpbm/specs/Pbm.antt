@@ -1,16 +1,16 @@
 -- A draft as a raw PBM, and when there is none.
 use mathlib.Core.Path.{_≡_}
-use mathlib.Core.Bool.{cond}
+use mathlib.Core.Bool.{cond, _&&_}
 use mathlib.Core.List.{List, [], _∷_, _++_}
-use Prim.Native.Nat.{ℕ, _*_}
+use Prim.Native.Nat.{ℕ, _+_, _*_, _<_}
 use lib.Dec.{eqb, leb, ltb}
-use lib.ListN.{length, take, drop}
+use lib.ListN.{length, getD, take, drop}
 use Rattle.std.specs.Iters.{counting}
 use Rattle.std.specs.Joined.{joined}
 use Rattle.std.specs.Written.{decimal}
 use Rattle.std.specs.Results.{Cases}
 use Rattle.std.specs.declared.result.Result.{Result}
-use Rattle.bits.specs.Bits.{packed, black, bytes-for}
+use Rattle.bits.specs.Bits.{packed, black, bytes-for, bit-in}
 use Rattle.refusal.specs.declared.refusal.Refusal.{Refusal}
 use Rattle.refusal.specs.Numbers.{number-of}
 
@@ -26,6 +26,7 @@ row-of columns codes r = take columns (drop (r * columns) codes)
 abbrev pub raster : ℕ → ℕ → List ℕ → List ℕ
 raster rows columns codes = joined (λ r. packed black (bytes-for columns) (row-of columns codes r)) (counting 0 rows)
 
+-- the whole file
 abbrev pub pbm : ℕ → ℕ → List ℕ → List ℕ
 pbm rows columns codes = header rows columns ++ raster rows columns codes
 
@@ -50,3 +51,9 @@ Packs rows columns codes old r new =
     Cases r
     (λ n. (pack-refusal rows columns codes (length old) ≡ 0) × (n ≡ length (pbm rows columns codes)) × (new ≡ pbm rows columns codes ++ drop n old))
     (λ e. (number-of e ≡ pack-refusal rows columns codes (length old)) × (new ≡ old))
+
+-- behind the header each row begins with a byte of its own; its bit c tells whether the code in column c is 0, and is 0 behind the last column
+abbrev pub Every-square-has-its-bit : Type 0
+Every-square-has-its-bit =
+    (rows columns : ℕ) (codes : List ℕ) (r c : ℕ) → length codes ≡ rows * columns → r < rows → c < 8 * bytes-for columns
+    → bit-in (drop (length (header rows columns) + r * bytes-for columns) (pbm rows columns codes)) c ≡ cond (ltb c columns && black (getD codes (r * columns + c) 0)) 1 0

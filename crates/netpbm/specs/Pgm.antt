@@ -1,4 +1,5 @@
 -- A drawing read from a plain PGM: columns, rows, the greatest sample and the samples are the numbers 0, 1, 2, 3, .. that follow P2.
+use mathlib.Core.Path.{_≡_}
 use mathlib.Core.Bool.{Bool, cond, _&&_}
 use mathlib.Core.List.{List, _++_, map}
 use Prim.Native.Nat.{ℕ, zero, suc, _+_, _*_}
@@ -11,12 +12,13 @@ use Rattle.std.specs.declared.option.Option.the-variants.{Some, None}
 use Rattle.refusal.specs.Numbers.{number-of}
 use Rattle.grid.specs.Limits.{within}
 use Rattle.netpbm.specs.declared.fault.Fault.{Fault}
-use Rattle.netpbm.specs.Words.{separator, start, number-at, value-at, after}
+use Rattle.netpbm.specs.Words.{separator, start, stop, number-at, value-at, after}
 
 -- what a fault tells: the refusal's number, and an offset
 pub data Told : Type 0 where
   told : ℕ → ℕ → Told
 
+-- what the code's fault tells
 abbrev pub told-by : Fault → Told
 told-by f = told (number-of (f .refusal)) (f .offset)
 
@@ -25,6 +27,7 @@ abbrev pub or-else : Option Told → Option Told → Option Told
 or-else (Some f) g = Some f
 or-else None g = g
 
+-- a fault unless the test holds
 abbrev pub unless : Bool → Told → Option Told
 unless t f = cond t None (Some f)
 
@@ -32,6 +35,7 @@ unless t f = cond t None (Some f)
 abbrev pub begins : List ℕ → Bool
 begins input = eqb (getD input 0 0) 80 && (eqb (getD input 1 0) 50 && separator (getD input 2 0))
 
+-- the three numbers of the head, and how many samples follow
 abbrev pub columns-in : List ℕ → ℕ
 columns-in input = value-at input (after input 0)
 
@@ -59,9 +63,18 @@ head-fault input room =
     (or-else (unless (leb 1 (greatest-in input) && leb (greatest-in input) 255) (told 14 (start input (after input 2))))
     (unless (leb (squares-in input) room) (told 6 0)))))))
 
+-- the head is read for a band of so many bytes: its numbers, and the position behind them
+abbrev pub Head-read : List ℕ → ℕ → ℕ → ℕ → ℕ → ℕ → Type 0
+Head-read input room rows columns greatest position =
+    (head-fault input room ≡ None) × (rows ≡ rows-in input) × (columns ≡ columns-in input) × (greatest ≡ greatest-in input) × (position ≡ after input 3)
+
 -- the fault of a sample: that of its number, or 14 above the greatest
 abbrev pub sample-fault : List ℕ → ℕ → ℕ → Option Told
 sample-fault input greatest at = or-else (number-fault input at) (unless (leb (value-at input at) greatest) (told 14 (start input at)))
+
+-- a sample is read from a position on: its value, and the position behind it
+abbrev pub Sample-read : List ℕ → ℕ → ℕ → ℕ → ℕ → Type 0
+Sample-read input greatest at value position = (sample-fault input greatest at ≡ None) × (value ≡ value-at input at) × (position ≡ stop input at)
 
 -- the first fault among n samples, and how many samples stand before it
 unfoldable pub first-fault : List ℕ → ℕ → Option Told
@@ -78,6 +91,11 @@ read-fault input room = or-else (head-fault input room) (first-fault input (squa
 
 abbrev pub tones-read : List ℕ → ℕ → ℕ
 tones-read input room = cond (isSome (head-fault input room)) 0 (sound input (squares-in input))
+
+-- the whole drawing is read into a band of so many bytes: its size, and the offset behind its last sample
+abbrev pub Drawing-read : List ℕ → ℕ → ℕ → ℕ → ℕ → Type 0
+Drawing-read input room rows columns end =
+    (read-fault input room ≡ None) × (rows ≡ rows-in input) × (columns ≡ columns-in input) × (end ≡ after input (3 + squares-in input))
 
 -- a sample is taken as the tone as it stands
 abbrev pub tone-of : ℕ → ℕ

@@ -38,6 +38,7 @@ abbrev pub spelled : ℕ → List ℕ → Option ℕ
 spelled n [] = Some n
 spelled n (b ∷ bs) = cond (digit b) (spelled (n * 10 + (b - 48)) bs) None
 
+-- none above 65,535
 abbrev pub capped : Option ℕ → Option ℕ
 capped None = None
 capped (Some n) = cond (leb n 65535) (Some n) None
@@ -46,6 +47,7 @@ capped (Some n) = cond (leb n 65535) (Some n) None
 abbrev pub number-at : List ℕ → ℕ → Option ℕ
 number-at input at = cond (ltb (start input at) (length input)) (capped (spelled 0 (word input at))) None
 
+-- its value, read as 0 where there is none
 abbrev pub value-at : List ℕ → ℕ → ℕ
 value-at input at = valueOr (number-at input at) 0
 

@@ -2,9 +2,8 @@
 ghost use mathlib.Core.Path.{_≡_};
 ghost use mathlib.Core.Bool.{true};
 ghost use Rattle.std.specs.Results.{Cases};
-ghost use Rattle.std.specs.declared.option.Option.the-variants.{Some, None};
-ghost use Rattle.netpbm.specs.Words.{after};
-ghost use Rattle.netpbm.specs.Pgm.{told-by, begins, rows-in, columns-in, greatest-in, head-fault};
+ghost use Rattle.std.specs.declared.option.Option.the-variants.{Some};
+ghost use Rattle.netpbm.specs.Pgm.{told-by, begins, head-fault, Head-read};
 use crate::fault::Fault;
 use crate::reader::Reader;
 use grid::Size;
@@ -23,7 +22,7 @@ pub(crate) fn read_head(reader: &mut Reader<'_>, room: usize) -> Result<Head, Fa
     requires position { ⌜ now reader .position ≡ 2 ⌝ }
     requires begun { ⌜ begins (now (now reader .input)) ≡ true ⌝ }
     ensures input { λ _. ⌜ now (now (reader .exit) .input) ≡ now (now (reader .entry) .input) ⌝ }
-    ensures head { λ r. ⌜ Cases r (λ h. (head-fault (now (now (reader .entry) .input)) room ≡ None) × (h .size .rows ≡ rows-in (now (now (reader .entry) .input))) × (h .size .columns ≡ columns-in (now (now (reader .entry) .input))) × (h .greatest ≡ greatest-in (now (now (reader .entry) .input))) × (now (reader .exit) .position ≡ after (now (now (reader .entry) .input)) 3)) (λ f. head-fault (now (now (reader .entry) .input)) room ≡ Some (told-by f)) ⌝ }
+    ensures head { λ r. ⌜ Cases r (λ h. Head-read (now (now (reader .entry) .input)) room (h .size .rows) (h .size .columns) (h .greatest) (now (reader .exit) .position)) (λ f. head-fault (now (now (reader .entry) .input)) room ≡ Some (told-by f)) ⌝ }
 {
     let columns = reader.next_number()?;
     let rows = reader.next_number()?;

@@ -5,6 +5,7 @@ mod digits;
 mod fault;
 mod head;
 mod header;
+mod laws;
 mod packing;
 mod raster;
 mod reader;
@@ -13,6 +14,10 @@ mod samples;
 mod separator;
 
 pub use fault::Fault;
+pub use fault::FaultDebug;
+pub use fault::FaultPartialEq;
+pub use laws::every_drawing_is_read;
+pub use laws::every_square_has_its_bit;
 pub use packing::pack;
 pub use reading::Picture;
 pub use reading::read_pgm;

@@ -1,12 +1,11 @@
 // Read: a drawing from a plain PGM without comments.
 ghost use mathlib.Core.Path.{_≡_};
 ghost use mathlib.Core.Bool.{true};
-ghost use Prim.Native.Nat.{_+_, _≤_};
+ghost use Prim.Native.Nat.{_≤_};
 ghost use lib.ListN.{length};
 ghost use Rattle.std.specs.Results.{Cases};
-ghost use Rattle.std.specs.declared.option.Option.the-variants.{Some, None};
-ghost use Rattle.netpbm.specs.Words.{after};
-ghost use Rattle.netpbm.specs.Pgm.{told-by, begins, rows-in, columns-in, squares-in, read-fault, tones-read, filled};
+ghost use Rattle.std.specs.declared.option.Option.the-variants.{Some};
+ghost use Rattle.netpbm.specs.Pgm.{told-by, begins, read-fault, Drawing-read, tones-read, filled};
 use crate::fault::Fault;
 use crate::head::read_head;
 use crate::reader::Reader;
@@ -43,7 +42,7 @@ fn does_begin(input: &[u8]) -> bool
 // refuses with 12 an input that begins otherwise, then by the numbers before the samples, then at the first sample at fault.
 pub fn read_pgm(input: &[u8], band: &mut [u8]) -> Result<Picture, Fault>
     ensures band { λ _. ⌜ now (band .exit) ≡ filled (now (input .entry)) (tones-read (now (input .entry)) (length (now (band .entry)))) (now (band .entry)) ⌝ }
-    ensures answer { λ r. ⌜ Cases r (λ p. (read-fault (now (input .entry)) (length (now (band .entry))) ≡ None) × (p .size .rows ≡ rows-in (now (input .entry))) × (p .size .columns ≡ columns-in (now (input .entry))) × (p .end ≡ after (now (input .entry)) (3 + squares-in (now (input .entry))))) (λ f. read-fault (now (input .entry)) (length (now (band .entry))) ≡ Some (told-by f)) ⌝ }
+    ensures answer { λ r. ⌜ Cases r (λ p. Drawing-read (now (input .entry)) (length (now (band .entry))) (p .size .rows) (p .size .columns) (p .end)) (λ f. read-fault (now (input .entry)) (length (now (band .entry))) ≡ Some (told-by f)) ⌝ }
 {
     if !does_begin(input) {
         return Err(Fault {

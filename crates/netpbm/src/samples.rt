@@ -4,8 +4,8 @@ ghost use Prim.Native.Nat.{_+_, _≤_};
 ghost use lib.ListN.{length};
 ghost use Rattle.std.specs.Results.{Cases};
 ghost use Rattle.std.specs.declared.option.Option.the-variants.{Some, None};
-ghost use Rattle.netpbm.specs.Words.{after, stop, value-at};
-ghost use Rattle.netpbm.specs.Pgm.{told-by, tone-of, sample-fault, first-fault, sound, greatest-in, filled};
+ghost use Rattle.netpbm.specs.Words.{after};
+ghost use Rattle.netpbm.specs.Pgm.{told-by, tone-of, sample-fault, Sample-read, first-fault, sound, greatest-in, filled};
 use crate::fault::Fault;
 use crate::reader::Reader;
 use refusal::Refusal;
@@ -20,7 +20,7 @@ fn tone_of(sample: u8) -> u8
 // The next sample. It refuses with 13 as any number is refused, then with 14 a sample above the greatest.
 fn read_sample(reader: &mut Reader<'_>, greatest: u8) -> Result<u8, Fault>
     ensures input { λ _. ⌜ now (now (reader .exit) .input) ≡ now (now (reader .entry) .input) ⌝ }
-    ensures value { λ r. ⌜ Cases r (λ v. (sample-fault (now (now (reader .entry) .input)) greatest (now (reader .entry) .position) ≡ None) × (v ≡ value-at (now (now (reader .entry) .input)) (now (reader .entry) .position)) × (now (reader .exit) .position ≡ stop (now (now (reader .entry) .input)) (now (reader .entry) .position))) (λ f. sample-fault (now (now (reader .entry) .input)) greatest (now (reader .entry) .position) ≡ Some (told-by f)) ⌝ }
+    ensures value { λ r. ⌜ Cases r (λ v. Sample-read (now (now (reader .entry) .input)) greatest (now (reader .entry) .position) v (now (reader .exit) .position)) (λ f. sample-fault (now (now (reader .entry) .input)) greatest (now (reader .entry) .position) ≡ Some (told-by f)) ⌝ }
 {
     let number = reader.next_number()?;
     if number.value > greatest as usize {

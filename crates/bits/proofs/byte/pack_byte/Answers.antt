@@ -1,5 +1,4 @@
-use mathlib.Core.Path.{_≡_, refl}
-use Prim.Native.Nat.{_+_, _*_, _<_, _≤_}
+use mathlib.Core.Path.{refl}
 use native.Mathlib.Omega.{arith}
 use Rattle.bits.specs.Bits.{binary, bit-at}
 use Rattle.bits.proofs.Binary.{binary-room, binary-more, bit-at-le}

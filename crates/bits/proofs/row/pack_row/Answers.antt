@@ -1,7 +1,7 @@
 use mathlib.Core.Path.{_≡_, ap, _∙_}
-use Prim.Native.Nat.{ℕ, _+_, _*_, _<_, _≤_}
+use Prim.Native.Nat.{ℕ, _*_}
 use native.Mathlib.Omega.{arith}
-use lib.ListN.{length, getD, set, drop}
+use lib.ListN.{length, drop}
 use Rattle.std.proofs.shelf.Edits.{fill-by-more}
 use Rattle.std.proofs.shelf.Counted.{fill-by-all}
 use Rattle.bits.specs.Bits.{byte-of}

@@ -1,9 +1,8 @@
-use mathlib.Core.Path.{_≡_, refl, sym, ap, _∙_}
-use Prim.Native.Nat.{_+_, _-_, _^_, _<_, _≤_}
+use mathlib.Core.Path.{ap, _∙_}
+use Prim.Native.Nat.{_+_, _-_}
 use native.Mathlib.Omega.{arith}
 use borrow.Author.Needs.{needs}
-use lib.ListN.{length, set}
-use Rattle.std.specs.Written.{decimal}
+use lib.ListN.{length}
 use Rattle.netpbm.proofs.HeaderLength.{length-header}
 use Rattle.netpbm.proofs.Parts.{headed}
 use Rattle.netpbm.proofs.header.put_header.Needs as need

@@ -1,11 +1,10 @@
 use mathlib.Core.Path.{_≡_, refl, sym, ap, _∙_}
 use mathlib.Core.List.{_++_}
-use Prim.Native.Nat.{_+_, _-_, _*_, _<_, _≤_}
+use Prim.Native.Nat.{_+_, _-_, _*_}
 use native.Mathlib.Omega.{arith}
 use lib.ListN.{length, drop}
 use Rattle.std.proofs.shelf.Results.{err-from-errBy}
-use Rattle.bits.specs.Bits.{bytes-for}
-use Rattle.netpbm.specs.Pbm.{header, raster, pbm, pack-refusal, codes-refusal}
+use Rattle.netpbm.specs.Pbm.{header}
 use Rattle.netpbm.proofs.Parts.{two-parts}
 use Rattle.netpbm.proofs.Rows.{length-raster}
 use Rattle.netpbm.proofs.Refusing.{total-is, refused-short, refused-by-codes}

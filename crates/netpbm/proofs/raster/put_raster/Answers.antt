@@ -1,9 +1,7 @@
-use mathlib.Core.Path.{_≡_, ap, _∙_}
-use Prim.Native.Nat.{_+_, _-_, _*_, _<_, _≤_}
+use mathlib.Core.Path.{ap}
+use Prim.Native.Nat.{_+_, _-_, _*_}
 use native.Mathlib.Omega.{arith}
 use borrow.Author.Needs.{needs}
-use lib.ListN.{length}
-use Rattle.bits.specs.Bits.{bytes-for}
 use Rattle.netpbm.proofs.Rows.{row-fits, row-written, rows-fill}
 use Rattle.netpbm.proofs.raster.put_raster.Needs as need
 

@@ -1,12 +1,11 @@
 use mathlib.Core.Path.{_≡_, refl, sym, ap, _∙_}
-use Prim.Native.Nat.{_+_, _<_, suc}
+use Prim.Native.Nat.{_+_}
 use native.Mathlib.Omega.{arith}
 use denote.Ref.{now}
-use lib.ListN.{length}
 use Rattle.std.specs.declared.option.Option.the-variants.{Some, None}
-use Rattle.netpbm.specs.Words.{after, stop, value-at}
-use Rattle.netpbm.specs.Pgm.{told-by, first-fault, tone-of, tone-in, greatest-in}
-use Rattle.netpbm.proofs.Faults.{fault-of, fault-more, fault-stays, sound-all, band-more, band-is, sample-fault-is}
+use Rattle.netpbm.specs.Words.{after}
+use Rattle.netpbm.specs.Pgm.{told-by, first-fault, tone-of, greatest-in}
+use Rattle.netpbm.proofs.Faults.{fault-of, fault-more, fault-stays, sound-all, band-more, band-is, sample-fault-is, tone-is, next-is}
 use Rattle.netpbm.proofs.samples.read_samples.Needs as need
 
 pub loop-i-holds : need.loop-i-holds
@@ -31,13 +30,11 @@ loop-i-again c =
     let got = c .in-Ok .ensures tt .value in
     let good : fault-of input i ≡ None =
     sym (sample-fault-is _ input _ (greatest-in input) _ (after input (3 + i)) (inv .0) (c .pre .greatest) (inv .1)) ∙ got .0 in
-    let is : c .tone-of .result ≡ tone-in input i =
-    c .tone-of .ensures ∙ ap tone-of (got .1 ∙ ap (λ l. value-at l (c .loop-i .reader .position)) (inv .0) ∙ ap (λ p. value-at input p) (inv .1)) in
-    let next : suc (3 + i) ≡ 3 + (i + 1) = omega arith in
-    let on : stop (now (c .loop-i .reader .input)) (c .loop-i .reader .position) ≡ after input (3 + (i + 1)) =
-    ap (λ l. stop l (c .loop-i .reader .position)) (inv .0) ∙ ap (stop input) (inv .1) ∙ ap (after input) next in
+    let xs = now (c .loop-i .reader .input) in
+    let at = c .loop-i .reader .position in
+    let is = tone-is xs input at i (c .in-Ok .sample) (c .tone-of .result) (inv .0) (inv .1) (got .1) (c .tone-of .ensures) in
     let more = band-more input (c .loop-i .band) (c .args .band .now) i (c .tone-of .result) (omega arith) is (inv .3) (inv .4) in
-    (c .in-Ok .ensures tt .input ∙ inv .0, got .2 ∙ on, fault-more input i None (inv .2) good, more .0, more .1)
+    (c .in-Ok .ensures tt .input ∙ inv .0, next-is xs input at i _ (inv .0) (inv .1) (got .2), fault-more input i None (inv .2) good, more .0, more .1)
 
 pub returns : need.returns
 returns c =

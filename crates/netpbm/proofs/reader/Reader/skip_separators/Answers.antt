@@ -1,8 +1,6 @@
-use mathlib.Core.Path.{_≡_, refl, sym, ap, _∙_}
+use mathlib.Core.Path.{sym, _∙_}
 use native.Mathlib.Omega.{arith}
 use denote.Ref.{now}
-use lib.ListN.{length}
-use Rattle.netpbm.specs.Words.{start}
 use Rattle.netpbm.proofs.Words.{start-yes, start-no, start-end}
 use Rattle.netpbm.proofs.reader.Reader.skip_separators.Needs as need
 
