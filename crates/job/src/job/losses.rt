@@ -42,7 +42,8 @@ impl<P: Plan, Q: Quantiser> Job<P, Q> {
         count
     }
 
-    // Lists place and error of each fixed baron of a row behind the `before` ones of the rows above, and answers how many are listed then.
+    // Lists place and error of each fixed baron of a row behind the `before` ones of the rows above, and answers how many are
+    // listed then.
     fn list_row_losses(
         &self,
         amounts: &[Q::Tone],
@@ -72,7 +73,7 @@ impl<P: Plan, Q: Quantiser> Job<P, Q> {
         count
     }
 
-    // Lists place and error of each fixed baron by rising place, and answers how many there are.
+    // The same for all rows, by rising place.
     fn list_losses(
         &self,
         amounts: &[Q::Tone],
@@ -93,7 +94,8 @@ impl<P: Plan, Q: Quantiser> Job<P, Q> {
         count
     }
 
-    // Lists place and error of each fixed baron by rising place, and answers how many there are. Where one list is too short both stay as they were.
+    // Lists place and error of each fixed baron by rising place, and answers how many there are. They are counted first: where
+    // one list is too short, both stay as they were.
     pub fn losses(
         &self,
         drawing: &[Q::Tone],

@@ -1,12 +1,9 @@
 use mathlib.Core.Path.{_≡_, sym, ap, _∙_}
-use mathlib.Core.Bool.{true, false, _&&_}
 use Prim.Native.Nat.{_+_, _*_, _<_}
 use native.Mathlib.Omega.{arith}
 use borrow.Author.Needs.{needs}
 use lib.ListN.{length}
 use Rattle.std.proofs.shelf.Bits.{mul-add-lt}
-use Rattle.diffusion.specs.Bands.{standing}
-use Rattle.diffusion.specs.Neighbourhoods.{baron}
 use Rattle.job.specs.Listings.{lost-below}
 use Rattle.job.specs.Meaning.{squares-of}
 use Rattle.job.proofs.Barons.{lost-le, count-more, count-same}

@@ -1,16 +1,14 @@
-use mathlib.Core.Path.{_≡_, refl, sym, ap, _∙_}
+use mathlib.Core.Path.{_≡_, sym, ap, _∙_}
 use mathlib.Core.Bool.{true}
-use mathlib.Core.List.{_++_}
-use Prim.Native.Nat.{_+_, _-_, _<_}
+use Prim.Native.Nat.{_+_, _-_}
 use native.Mathlib.Omega.{arith}
 use lib.ListN.{length, drop}
-use Rattle.std.specs.shelf.Lists.{kept-by}
 use Rattle.bits.specs.Bits.{fixed, bytes-for, packed}
 use Rattle.bits.proofs.Binary.{length-packed}
 use Rattle.model.specs.Calls.{wrote}
 use Rattle.model.specs.Calls.Answer.{Refused}
 use Rattle.model.specs.Jobs.{fits}
-use Rattle.model.specs.Records.{size-bytes, bit-map, record-of}
+use Rattle.model.specs.Records.{bit-map, record-of}
 use Rattle.job.specs.Meaning.{meant, band}
 use Rattle.job.proofs.Kept.{length-record}
 use Rattle.job.proofs.Outputs.{write-short, write-whole}

@@ -1,13 +1,10 @@
-use mathlib.Core.Path.{_≡_, sym, ap, subst, _∙_}
-use mathlib.Core.Bool.{true, false, _&&_}
+use mathlib.Core.Path.{_≡_, sym, _∙_}
 use Prim.Native.Nat.{_+_, _*_, _<_}
-use native.Mathlib.Nat.{add-mul}
 use native.Mathlib.Omega.{arith}
 use borrow.Author.Needs.{needs}
 use lib.ListN.{length}
 use Rattle.std.proofs.shelf.Bits.{mul-add-lt}
 use Rattle.std.proofs.shelf.Lists.{getD-read}
-use Rattle.job.specs.Listings.{Listing}
 use Rattle.job.specs.Meaning.{squares-of}
 use Rattle.job.proofs.Barons.{row-room}
 use Rattle.job.proofs.Listed.{listing-at, listing-more, listing-same}

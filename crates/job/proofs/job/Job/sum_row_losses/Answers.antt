@@ -1,4 +1,4 @@
-use mathlib.Core.Path.{_≡_, sym, _∙_}
+use mathlib.Core.Path.{_≡_, _∙_}
 use Prim.Native.Nat.{_+_, _*_, _<_}
 use native.Mathlib.Nat.{add-mul}
 use native.Mathlib.Omega.{arith}
@@ -31,7 +31,7 @@ pub loop-column-holds : need.loop-column-holds
 loop-column-holds g c =
     let a = g .Tone·Tone .algebra in
     let j = c .args .self .now in
-    terms-all a (loss-at a (squares-of (g .P·Plan .meaning) j) (c .args .codes .now) (c .args .amounts .now)) (c .args .row * j .size .columns) (c .args .before) (c .pre .before) _ (omega arith)
+    terms-all a (loss-at a (squares-of (g .P·Plan .meaning) j) (c .args .codes .now) (c .args .amounts .now)) (c .args .row * j .size .columns) (c .args .before) (c .pre .before) (c .args .row * j .size .columns + 0) (omega arith)
 
 pub loop-column-again : need.loop-column-again
 loop-column-again g c =
@@ -62,4 +62,4 @@ pub returns : need.returns
 returns g c =
     let a = g .Tone·Tone .algebra in
     let j = c .args .self .now in
-    terms-all a (loss-at a (squares-of (g .P·Plan .meaning) j) (c .args .codes .now) (c .args .amounts .now)) (c .args .row * j .size .columns + c .loop-column .column) (c .loop-column .sum) (c .loop-column .inv) _ (omega (arith, add-mul (c .args .row) 1 (j .size .columns)))
+    terms-all a (loss-at a (squares-of (g .P·Plan .meaning) j) (c .args .codes .now) (c .args .amounts .now)) (c .args .row * j .size .columns + c .loop-column .column) (c .loop-column .sum) (c .loop-column .inv) ((c .args .row + 1) * j .size .columns) (omega (arith, add-mul (c .args .row) 1 (j .size .columns)))
