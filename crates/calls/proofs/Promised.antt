@@ -28,7 +28,7 @@ pub record Lengths (rows columns d a c : ℕ) : Type 0 where
 pub opened-lengths : (rows columns d a c : ℕ) → open-refusal rows columns d a c ≡ 0 → Lengths rows columns d a c
 opened-lengths rows columns d a c = go (within rows columns) (eqb d (rows * columns) && (eqb a (rows * columns) && eqb c (rows * columns))) refl
   where
-    go : (w e : Bool) → eqb d (rows * columns) && (eqb a (rows * columns) && eqb c (rows * columns)) ≡ e → cond w (cond e 0 2) 1 ≡ 0 → Lengths rows columns d a c
+    go : (w e : Bool) → eqb d (rows * columns) && (eqb a (rows * columns) && eqb c (rows * columns)) ≡ e → _≡_ {A = ℕ} (cond w (cond e 0 2) 1) 0 → Lengths rows columns d a c
     go true true e h =
         let outer = and-parts (eqb d (rows * columns)) _ e in
         let inner = and-parts (eqb a (rows * columns)) (eqb c (rows * columns)) (outer .1) in

@@ -12,7 +12,7 @@ use quantiser::Quantiser;
 // Two lists of calls that end with the same squares fixed end with the same codes and amounts, whichever squares went first: for two jobs of
 // one size on one drawing, with plans and quantisers of any two types that mean the same.
 pub fn same_squares_same_bands<P: Plan, V: Plan, Q: Quantiser, W: Quantiser<Tone = Q::Tone>>() -> u8
-    ensures { λ _. ⌜ ((p : P) (v : V) (q : Q) (w : W) → Same-meaning (P·Plan .meaning p) (V·Plan .meaning v) (Q·Quantiser .tables q) (W·Quantiser .tables w) → (rows columns : ℕ) (drawing : List Q·Tone) → length drawing ≡ rows * columns → Same-bands (job-of (Tone·Tone·1 .algebra) rows columns (P·Plan .meaning p) (Q·Quantiser .tables q) drawing) (job-of (Tone·Tone·1 .algebra) rows columns (V·Plan .meaning v) (W·Quantiser .tables w) drawing)) ⌝ }
+    ensures { λ _. ⌜ ((p : P) (v : V) (q : Q) (w : W) → Same-meaning (P·Plan .meaning p) (V·Plan .meaning v) (Q·Quantiser .tables q) (W·Quantiser .tables w) → (rows columns : ℕ) (drawing : List Q·Tone) → length drawing ≡ rows * columns → Same-bands (job-of (Tone·Tone .algebra) rows columns (P·Plan .meaning p) (Q·Quantiser .tables q) drawing) (job-of (Tone·Tone .algebra) rows columns (V·Plan .meaning v) (W·Quantiser .tables w) drawing)) ⌝ }
 {
     0
 }
