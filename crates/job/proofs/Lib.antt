@@ -1,6 +1,7 @@
 pub mod Around
 pub mod Attempts
 pub mod Fitting
+pub mod Forms
 pub mod KindLists
 pub mod Parting
 pub mod Readies
