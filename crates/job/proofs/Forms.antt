@@ -62,3 +62,7 @@ pub too-short : (rows columns : ℕ) (rec : List ℕ) → length rec < 4 + bytes
 too-short rows columns rec l =
     and-right (right-size rows columns rec) _ (and-right (spare-clear (rows * columns) rec) _
     (ne-eqb (length rec) (4 + bytes-for (rows * columns) + stand-below rec (rows * columns)) (λ e. omega arith)))
+
+-- the bit of a square lies within a record that has its whole map
+pub bit-within : (rec : List ℕ) (s n : ℕ) → s < n → 4 + bytes-for n ≤ length rec → 4 + s / 8 < length rec
+bit-within rec s n l h = omega arith

@@ -7,3 +7,4 @@ pub mod Parting
 pub mod Readies
 pub mod Refusing
 pub mod Terms
+pub mod Working

@@ -3,3 +3,5 @@ pub mod Meaning
 pub mod Patterns
 pub mod Shown
 pub mod Single
+pub mod Upheld
+pub mod Worked

@@ -2,9 +2,11 @@
 use grid::Size;
 
 mod baron;
+mod closed;
 mod fix;
 mod gather;
 mod lengths;
+mod replay;
 mod spread;
 mod tally;
 
