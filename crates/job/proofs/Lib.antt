@@ -7,4 +7,5 @@ pub mod Parting
 pub mod Readies
 pub mod Refusing
 pub mod Terms
+pub mod Unpacking
 pub mod Working

@@ -1,4 +1,5 @@
 pub mod Answers
+pub mod Coded
 pub mod Meaning
 pub mod Patterns
 pub mod Shown

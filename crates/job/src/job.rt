@@ -3,10 +3,12 @@ use grid::Size;
 
 mod baron;
 mod closed;
+mod codes;
 mod fix;
 mod gather;
 mod lengths;
 mod replay;
+mod resume;
 mod spread;
 mod tally;
 
