@@ -6,6 +6,7 @@ pub mod KindLists
 pub mod Parting
 pub mod Readies
 pub mod Refusing
+pub mod Resuming
 pub mod Terms
 pub mod Unpacking
 pub mod Working
