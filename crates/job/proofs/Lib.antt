@@ -3,6 +3,7 @@ pub mod Around
 pub mod Attempts
 pub mod Barons
 pub mod Fitting
+pub mod Forms
 pub mod Kept
 pub mod KindLists
 pub mod Listed
@@ -12,5 +13,8 @@ pub mod Parts
 pub mod Passes
 pub mod Readies
 pub mod Refusing
+pub mod Resuming
 pub mod Standing
 pub mod Terms
+pub mod Unpacking
+pub mod Working

@@ -1,7 +1,10 @@
 pub mod Answers
+pub mod Coded
 pub mod Listings
 pub mod Meaning
 pub mod Patterns
 pub mod Progress
 pub mod Shown
 pub mod Single
+pub mod Upheld
+pub mod Worked

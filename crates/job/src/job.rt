@@ -2,6 +2,8 @@
 use grid::Size;
 
 mod baron;
+mod closed;
+mod codes;
 mod finish;
 mod fix;
 mod follow;
@@ -10,6 +12,8 @@ mod halt;
 mod lengths;
 mod losses;
 mod open;
+mod replay;
+mod resume;
 mod spread;
 mod tally;
 

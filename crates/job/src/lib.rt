@@ -1,5 +1,6 @@
 // Jobs: a plan and a quantiser at work on a drawing, in bands that the caller lends.
 mod beside;
+mod form;
 mod job;
 mod kind;
 mod pattern;
