@@ -7,4 +7,5 @@ pub mod Parting
 pub mod Passes
 pub mod Readies
 pub mod Refusing
+pub mod Strides
 pub mod Terms
