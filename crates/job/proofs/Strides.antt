@@ -1,5 +1,5 @@
 -- A row in steps of a whole column period: the columns between have other ranks, and inner squares have the same pattern.
-use mathlib.Core.Path.{_≡_, refl, sym, ap, ap₂, _∙_}
+use mathlib.Core.Path.{_≡_, refl, sym, ap, ap₂, subst, _∙_}
 use mathlib.Core.Bool.{Bool, cond}
 use mathlib.Core.List.{List}
 use mathlib.Core.Logic.{inl, inr}
@@ -23,12 +23,14 @@ use Rattle.grid.specs.declared.direction.Step.the-variants.{Back, Stay, Ahead}
 use Rattle.diffusion.specs.Bands.{Bands}
 use Rattle.diffusion.specs.Draft.{Setting}
 use Rattle.diffusion.specs.Drawings.{plain-drawing, setting-of}
+use Rattle.diffusion.specs.Neighbourhoods.{Neighbourhood}
 use Rattle.diffusion.proofs.Lines.{lays-out}
 use Rattle.job.specs.Patterns.{compared, kind-of, kind-at, Pattern-of}
 use Rattle.job.specs.Periods.{First, Lone, Inner}
 use Rattle.job.specs.Progress.{progress, visited, passed-from}
 use Rattle.job.specs.declared.kind.Kind.{Kind}
 use Rattle.job.specs.declared.kind.Kind.the-variants.{Neither}
+use Rattle.job.specs.declared.pattern.Pattern.{Pattern}
 use Rattle.job.proofs.Around.{kind-here, pattern-told}
 use Rattle.job.proofs.Passes.{from-none, from-more, from-quiet}
 
@@ -138,6 +140,11 @@ module _ (rows columns : ℕ) (plan : Ranks) (law : plans.Lawful plan) (row from
       let there = pattern-told rows columns plan law (row * columns + to) (inside to (omega arith)) ks kinds in
       record { kinds = kinds; weights = known .weights ∙ sym (here .weights) ∙ there .weights; last = known .last ∙ sym (here .last) ∙ there .last }
 
+-- the pattern of a place, by equal terms for both
+pub same-place : (squares : Neighbourhood) (s t : ℕ) (p r : Pattern) → t ≡ s → r ≡ p → Pattern-of squares s (p .kinds) (p .weights) (p .last) → Pattern-of squares t (r .kinds) (r .weights) (r .last)
+same-place squares s t p r place pattern known =
+    subst (λ k. Pattern-of squares k (r .kinds) (r .weights) (r .last)) (sym place) (subst (λ (x : Pattern). Pattern-of squares s (x .kinds) (x .weights) (x .last)) (sym pattern) known)
+
 module _ {T : Type 0} (tone : Algebra T) (rows columns : ℕ) (plan : Ranks) (law : plans.Lawful plan) (tables : Tables T) (drawing : ℕ → T) (rank row : ℕ) (start : Bands T) where
   abbrev setting : Setting T
   setting = setting-of tone rows columns plan tables drawing
@@ -164,9 +171,9 @@ module _ {T : Type 0} (tone : Algebra T) (rows columns : ℕ) (plan : Ranks) (la
         let whole : 0 + n ≡ n = omega arith in
         from-quiet setting rank (row * columns) 0 n 0 start start (sym (from-none setting rank (row * columns) start))
         (λ m from to is.
-            let small : m < plan .columnPeriod = omega arith in
-            let same : m ≡ first = sym (mod-eq-of-lt small) ∙ at .only m (sym (place-rank m (omega arith)) ∙ is) in
-            omega arith)
+        let small : m < plan .columnPeriod = omega arith in
+        let same : m ≡ first = sym (mod-eq-of-lt small) ∙ at .only m (sym (place-rank m (omega arith)) ∙ is) in
+        omega arith)
         ∙ ap (λ k. passed-from setting rank (row * columns) k start) whole
 
     -- one step more
