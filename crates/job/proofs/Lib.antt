@@ -15,6 +15,7 @@ pub mod Readies
 pub mod Refusing
 pub mod Resuming
 pub mod Standing
+pub mod Strides
 pub mod Terms
 pub mod Unpacking
 pub mod Working

@@ -3,6 +3,7 @@ pub mod Coded
 pub mod Listings
 pub mod Meaning
 pub mod Patterns
+pub mod Periods
 pub mod Progress
 pub mod Shown
 pub mod Single

@@ -1,4 +1,5 @@
 // Finish: every square that is still open, rank by rank.
+ghost use mathlib.Core.Bool.{true};
 ghost use mathlib.Core.Path.{_≡_};
 ghost use Prim.Native.Nat.{_+_, _*_, _<_, _≤_};
 ghost use lib.ListN.{length};
@@ -7,6 +8,7 @@ ghost use Rattle.model.specs.Steps.{finish-on};
 ghost use Rattle.job.specs.Answers.{counted};
 ghost use Rattle.job.specs.Meaning.{squares-of, meant, setting-by, band};
 ghost use Rattle.job.specs.Patterns.{Pattern-of};
+ghost use Rattle.job.specs.Periods.{Found, First, Lone, Inner};
 ghost use Rattle.job.specs.Progress.{progress, visited, passed-from, passed-below, swept-below};
 use crate::job::Job;
 use crate::pattern::Pattern;
@@ -55,6 +57,92 @@ impl<P: Plan, Q: Quantiser> Job<P, Q> {
         count
     }
 
+    // The first column of a row with a rank. The ranks repeat, so that one period tells.
+    fn first_column(&self, rank: u8, row: usize) -> Option<usize>
+        ensures { λ r. ⌜ Found (P·Plan .meaning (now (self .entry) .plan)) rank row r ⌝ }
+    {
+        for column in 0..self.plan.column_period() {
+            if self.plan.rank(row, column) == rank {
+                return Some(column);
+            }
+        }
+        None
+    }
+
+    // Whether the first column of a row with a rank is the only one of its period.
+    fn is_lone(&self, rank: u8, row: usize, first: usize) -> bool
+        requires { ⌜ First (P·Plan .meaning (now self .plan)) rank row first ⌝ }
+        ensures { λ r. ⌜ (r ≡ true → Lone (P·Plan .meaning (now (self .entry) .plan)) rank row first) ⌝ }
+    {
+        for column in first + 1..self.plan.column_period() {
+            if self.plan.rank(row, column) == rank {
+                return false;
+            }
+        }
+        true
+    }
+
+    // Whether the squares of a row from one column to another touch no edge.
+    fn is_inner(&self, row: usize, from: usize, to: usize) -> bool
+        requires row { ⌜ row < now self .size .rows ⌝ }
+        requires to { ⌜ to < now self .size .columns ⌝ }
+        ensures { λ r. ⌜ (r ≡ true → Inner (now (self .entry) .size .rows) (now (self .entry) .size .columns) row from to) ⌝ }
+    {
+        0 < row && row + 1 < self.size.rows && 0 < from && to + 1 < self.size.columns
+    }
+
+    // Fixes the ready squares of a row whole periods from a column, and answers how many. Inner ones have one pattern, which is gathered once.
+    fn stride_row(
+        &self,
+        amounts: &mut [Q::Tone],
+        codes: &mut [u8],
+        rank: u8,
+        row: usize,
+        first: usize,
+    ) -> usize
+        requires row { ⌜ row < now self .size .rows ⌝ }
+        requires first { ⌜ first < now self .size .columns ⌝ }
+        requires lone { ⌜ Lone (P·Plan .meaning (now self .plan)) rank row first ⌝ }
+        requires amounts { ⌜ length (now amounts) ≡ now self .size .rows * now self .size .columns ⌝ }
+        requires codes { ⌜ length (now codes) ≡ now self .size .rows * now self .size .columns ⌝ }
+        ensures few { λ r. ⌜ r ≤ now (self .entry) .size .columns ⌝ }
+        ensures after { λ r. ⌜ progress r (band (now (codes .exit)) (now (amounts .exit))) ≡ passed-from (setting-by (Tone·Tone .algebra) (P·Plan .meaning) (Q·Quantiser .tables) (now (self .entry))) rank (row * now (self .entry) .size .columns) (now (self .entry) .size .columns) (band (now (codes .entry)) (now (amounts .entry))) ⌝ }
+    {
+        let start = row * self.size.columns;
+        let period = self.plan.column_period();
+        let mut count = 0;
+        let mut column = first;
+        let mut known = first;
+        let mut pattern = self.pattern(row, first);
+        while column < self.size.columns {
+            if !self.is_inner(row, known, column) {
+                known = column;
+                pattern = self.pattern(row, column);
+            }
+            count += self.visit(amounts, codes, start + column, &pattern);
+            column += period;
+        }
+        count
+    }
+
+    // Fixes the ready squares of one rank in a row, and answers how many: by steps of a period where it has one such column.
+    fn pass_row(&self, amounts: &mut [Q::Tone], codes: &mut [u8], rank: u8, row: usize) -> usize
+        requires row { ⌜ row < now self .size .rows ⌝ }
+        requires amounts { ⌜ length (now amounts) ≡ now self .size .rows * now self .size .columns ⌝ }
+        requires codes { ⌜ length (now codes) ≡ now self .size .rows * now self .size .columns ⌝ }
+        ensures few { λ r. ⌜ r ≤ now (self .entry) .size .columns ⌝ }
+        ensures after { λ r. ⌜ progress r (band (now (codes .exit)) (now (amounts .exit))) ≡ passed-from (setting-by (Tone·Tone .algebra) (P·Plan .meaning) (Q·Quantiser .tables) (now (self .entry))) rank (row * now (self .entry) .size .columns) (now (self .entry) .size .columns) (band (now (codes .entry)) (now (amounts .entry))) ⌝ }
+    {
+        let Some(first) = self.first_column(rank, row) else {
+            return 0;
+        };
+        if first < self.size.columns && self.is_lone(rank, row, first) {
+            self.stride_row(amounts, codes, rank, row, first)
+        } else {
+            self.scan_row(amounts, codes, rank, row)
+        }
+    }
+
     // Fixes the ready squares of one rank in reading order, and answers how many.
     fn pass(&self, amounts: &mut [Q::Tone], codes: &mut [u8], rank: u8) -> usize
         requires amounts { ⌜ length (now amounts) ≡ now self .size .rows * now self .size .columns ⌝ }
@@ -64,7 +152,7 @@ impl<P: Plan, Q: Quantiser> Job<P, Q> {
     {
         let mut count = 0;
         for row in 0..self.size.rows {
-            count += self.scan_row(amounts, codes, rank, row);
+            count += self.pass_row(amounts, codes, rank, row);
         }
         count
     }

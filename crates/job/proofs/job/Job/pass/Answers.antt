@@ -20,7 +20,7 @@ loop-row-again g c =
     let j = setting-by (g .Tone·Tone .algebra) (g .P·Plan .meaning) (g .Q·Quantiser .tables) job in
     let k = c .loop-row .row in
     let next : (k + 1) * columns ≡ k * columns + columns = add-mul k 1 columns ∙ ap (λ n. k * columns + n) (one-mul columns) in (
-      omega (arith, next, c .loop-row .inv .0, c .scan-row-count .ensures .few),
-      row-more j (c .args .rank) k columns (c .loop-row .count) (c .scan-row-count .result) (band (c .args .codes .now) (c .args .amounts .now)) (band (c .loop-row .codes) (c .loop-row .amounts))
-          (band (c .scan-row-count .last .codes) (c .scan-row-count .last .amounts)) (c .loop-row .inv .1) (c .scan-row-count .ensures .after),
+      omega (arith, next, c .loop-row .inv .0, c .pass-row-count .ensures .few),
+      row-more j (c .args .rank) k columns (c .loop-row .count) (c .pass-row-count .result) (band (c .args .codes .now) (c .args .amounts .now)) (band (c .loop-row .codes) (c .loop-row .amounts))
+          (band (c .pass-row-count .last .codes) (c .pass-row-count .last .amounts)) (c .loop-row .inv .1) (c .pass-row-count .ensures .after),
     )
