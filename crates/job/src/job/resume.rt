@@ -43,7 +43,7 @@ impl<P: Plan, Q: Quantiser> Job<P, Q> {
 
     // Brings back the job of a record: 2 for the bands, 7 for its form, 8 where a standing square has a lower neighbour that does not, and
     // 9 for a code that is not the definition's. What the bands held is not looked at; only 9 changes them without acceptance.
-    pub(crate) fn resume(
+    pub fn resume(
         &self,
         drawing: &[Q::Tone],
         amounts: &mut [Q::Tone],
