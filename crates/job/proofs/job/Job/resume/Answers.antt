@@ -1,9 +1,6 @@
-use mathlib.Core.Path.{_≡_, refl, sym, ap, _∙_}
-use mathlib.Core.Bool.{true}
-use Prim.Native.Nat.{_+_, _*_, _≤_}
+use mathlib.Core.Path.{sym, ap, _∙_}
 use native.Mathlib.Omega.{arith}
-use lib.ListN.{length, replicate}
-use Rattle.model.specs.Jobs.{fits}
+use lib.ListN.{replicate}
 use Rattle.job.specs.Meaning.{meant, band}
 use Rattle.job.proofs.Fitting.{fitting}
 use Rattle.job.proofs.Resuming.{due-length, refused-form, refused-map, accepted, refused-code}
