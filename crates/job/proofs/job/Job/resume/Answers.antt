@@ -44,6 +44,12 @@ returns-then-rework g c =
     (sym (c .if-not-lengths-match .ensures tt)) (sym (c .if-not-is-well-formed .ensures tt)) (sym (c .if-not-is-closed .ensures tt))
     (c .rework .last .codes) (c .rework .last .amounts) (c .if-rework .ensures tt)
 
+pub copy-from-slice-requires : need.copy-from-slice-requires
+copy-from-slice-requires g c κs =
+    let p = meant (g .Tone·Tone .algebra) (g .P·Plan .meaning) (g .Q·Quantiser .tables) (c .args .self .now) (c .args .drawing .now) in
+    let f = fitting p (band (c .args .codes .now) (c .args .amounts .now)) (sym (c .if-not-lengths-match .ensures tt)) in
+    c .rework .kept .amounts ∙ f .amounts ∙ sym (f .drawing)
+
 pub returns : need.returns
 returns g c =
     let j = c .args .self .now in
