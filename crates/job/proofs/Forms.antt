@@ -4,14 +4,13 @@ use mathlib.Core.Bool.{Bool, true, false, cond, not, _&&_, _||_}
 use mathlib.Core.List.{List}
 use mathlib.Core.Logic.{inl, inr}
 use Prim.Native.Nat.{ℕ, zero, suc, _+_, _*_, _/_, _<_, _≤_}
-use native.Mathlib.Numerals.{add-one}
 use native.Mathlib.Omega.{arith}
-use lib.Dec.{eqb, ltb}
+use lib.Dec.{ltb}
 use lib.ListN.{length}
 use Rattle.std.proofs.shelf.Tests.{cases-eq, and-from, and-right, lt-ltb, le-ltb, ne-eqb, or-left, or-right}
 use Rattle.bits.specs.Bits.{bytes-for}
 use Rattle.model.specs.Records.{stands, stand-below, all-below, right-size, spare-clear, right-length}
-use Rattle.model.proofs.OneMore.{stand-below-more, all-below-none, all-below-more, all-below-failed}
+use Rattle.model.proofs.OneMore.{stand-below-more, all-below-more, all-below-failed}
 
 -- one place more that stands, or that does not
 module _ (rec : List ℕ) (n count : ℕ) (so-far : count ≡ stand-below rec n) where
@@ -47,6 +46,7 @@ module _ (rec : List ℕ) (n : ℕ) where
   abbrev pub spare : ℕ → Bool
   spare k = ltb k n || not (stands rec k)
 
+  -- before the first spare bit, after one that is clear, and at one that stands
   pub spare-none : all-below spare n ≡ true
   spare-none = all-below-each spare n (λ k l. or-left (ltb k n) _ (lt-ltb k n l))
 

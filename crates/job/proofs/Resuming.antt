@@ -1,15 +1,12 @@
 -- Resume by its outcome: each refusal, and the job that is brought back.
 use mathlib.Core.Path.{_≡_, refl, sym, ap, subst, _∙_}
-use mathlib.Core.Bool.{Bool, true, false, cond, _&&_}
+use mathlib.Core.Bool.{Bool, true, false, _&&_}
 use mathlib.Core.List.{List}
 use mathlib.Core.Logic.{inl, inr}
-use Prim.Native.Nat.{ℕ, suc, _+_, _*_, _≤_}
-use native.Mathlib.Omega.{arith}
-use lib.Dec.{eqb}
+use Prim.Native.Nat.{ℕ, suc, _+_, _*_}
 use lib.ListN.{length, getD, replicate}
-use Rattle.std.specs.declared.option.Option.{Option}
-use Rattle.std.specs.declared.option.Option.the-variants.{Some, None}
-use Rattle.std.proofs.shelf.Tests.{cases-eq, cond-true, cond-false, and-parts, eqb-true, false≢true}
+use Rattle.std.specs.declared.option.Option.the-variants.{Some}
+use Rattle.std.proofs.shelf.Tests.{cases-eq, cond-true, and-parts, eqb-true, false≢true}
 use Rattle.tone.specs.Algebra.{Algebra}
 use Rattle.tone.specs.Algebra as tones
 use Rattle.plan.specs.Ranks.{Ranks}
@@ -45,6 +42,7 @@ due-length rows columns rec formed =
 
 -- what the replay of the codes that were written into a band of m squares leaves
 module _ {T : Type 0} (j : Setting T) (top : ℕ) (drawing : List T) (rec cs : List ℕ) (xs : List T) (m : ℕ) (long : m ≡ j .squares .count) where
+  -- a standing square had no code
   pub reworked-not : (Each-coded m rec → ⊥) → Reworked j top drawing rec false cs xs
   reworked-not not-each = record {
     each = λ e. absurd (false≢true e);
@@ -53,6 +51,7 @@ module _ {T : Type 0} (j : Setting T) (top : ℕ) (drawing : List T) (rec cs : L
     failed = λ e each. absurd (not-each (subst (λ n. Each-coded n rec) (sym long) each));
   }
 
+  -- each had one, and the replay says the rest
   pub reworked-by : (r : Bool) (copied : List T) → Each-coded m rec → cs ≡ codes-in m rec → copied ≡ drawing → kept-if r xs ≡ replay j cs (Some copied) (suc top)
       → Reworked j top drawing rec r cs xs
   reworked-by r copied each written from left =
@@ -80,17 +79,21 @@ module _ {T : Type 0} (tone : Algebra T) (rows columns : ℕ) (plan : Ranks) (ta
       sym (cond-true (fits p b) (resume-at (record-refusal p rec) (bands (p .setting) (stands rec)) (bands (p .setting) none) b) (told (Refused 2) b) fit
       ∙ ap (λ k. resume-at k (bands (p .setting) (stands rec)) (bands (p .setting) none) b) e)
 
+  -- another size, a spare bit or another length: the bands stay
   pub refused-form : fits p b ≡ true → well-formed p rec ≡ false → told (Refused 7) b ≡ resume-on p rec b
   refused-form fit e = by-refusal 7 fit (refusal-of-form p rec e)
 
+  -- a standing square with a lower neighbour that does not stand: the bands stay
   pub refused-map : fits p b ≡ true → well-formed p rec ≡ true → closed-by (p .setting .squares) (stands rec) ≡ false → told (Refused 8) b ≡ resume-on p rec b
   refused-map fit formed e = by-refusal 8 fit (refusal-of-closedness p rec formed e)
 
   module _ (tl : tones.Lawful tone) (pl : plans.Lawful plan) (sound : Sound tone tables)
       (fit : fits p b ≡ true) (formed : well-formed p rec ≡ true) (closed : closed-by (p .setting .squares) (stands rec) ≡ true) where
+    -- each band and the drawing are as long as there are squares
     lengths : Fitting p b
     lengths = fitting p b fit
 
+    -- what the definition makes of the record, by a replay of its codes
     judged : Resumes p rec
     judged = resumes p (lawful-job tone rows columns plan tables drawing tl pl sound (lengths .drawing)) rec formed closed
 

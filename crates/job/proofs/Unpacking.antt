@@ -1,6 +1,6 @@
 -- A record's codes written into a code band, place by place.
-use mathlib.Core.Path.{_≡_, refl, sym, ap, ap₂, _∙_}
-use mathlib.Core.Bool.{Bool, true, false, cond}
+use mathlib.Core.Path.{_≡_, refl, sym, ap, _∙_}
+use mathlib.Core.Bool.{true, false, cond}
 use mathlib.Core.List.{List}
 use mathlib.Core.Logic.{inl, inr}
 use Prim.Native.Nat.{ℕ, zero, suc, _+_, _<_, _≤_}
@@ -37,6 +37,7 @@ module _ (n : ℕ) (rec : List ℕ) where
     pub codes : (k : ℕ) → k < s → getD cs k 0 ≡ code-at k
     pub each : (k : ℕ) → k < s → stands rec k ≡ true → code-in n rec k ≡ 255 → ⊥
 
+  -- before the first place
   pub written-none : (cs : List ℕ) → Written 0 (4 + bytes-for n) cs
   written-none cs = record {
     next-is = omega (arith, stand-below-none rec);
@@ -56,6 +57,7 @@ module _ (n : ℕ) (rec : List ℕ) where
     pub read-is : getD rec next 0 ≡ code-in n rec s
     read-is = ap (λ i. getD rec i 0) (w .next-is)
 
+    -- one place more, that stands and has a code,
     pub written-standing : s < length cs → stands rec s ≡ true → (getD rec next 0 ≡ 255 → ⊥) → Written (s + 1) (next + 1) (set cs s (getD rec next 0))
     written-standing l e ne = record {
       next-is = (let one = counted-standing rec s (stand-below rec s) refl e in let is = w .next-is in omega arith);
@@ -64,6 +66,7 @@ module _ (n : ℕ) (rec : List ℕ) where
       each = below-more (λ k. stands rec k ≡ true → code-in n rec k ≡ 255 → ⊥) s (w .each) (λ t is. ne (read-is ∙ is));
     }
 
+    -- or that does not stand
     pub written-open : s < length cs → stands rec s ≡ false → Written (s + 1) next (set cs s 255)
     written-open l e = record {
       next-is = (let same = counted-other rec s (stand-below rec s) refl e in let is = w .next-is in omega arith);
@@ -76,6 +79,7 @@ module _ (n : ℕ) (rec : List ℕ) where
     pub not-each : s < n → stands rec s ≡ true → getD rec next 0 ≡ 255 → Each-coded n rec → ⊥
     not-each l e is each = each s l e (sym read-is ∙ is)
 
+    -- after the last place
     pub each-all : s ≡ n → Each-coded n rec
     each-all e = λ k l. w .each k (omega arith)
 

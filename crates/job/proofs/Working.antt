@@ -1,10 +1,8 @@
 -- A replay, square by square, row by row and rank by rank.
 use mathlib.Core.Path.{_≡_, refl, sym, ap, _∙_}
-use mathlib.Core.Bool.{Bool, true, false, _&&_}
+use mathlib.Core.Bool.{true, false, _&&_}
 use mathlib.Core.List.{List}
-use Prim.Native.Nat.{ℕ, zero, suc, _+_, _*_, _<_, _≤_}
-use native.Mathlib.Numerals.{add-one}
-use native.Mathlib.Omega.{arith}
+use Prim.Native.Nat.{ℕ, zero, suc, _+_, _*_, _≤_}
 use lib.Dec.{eqb}
 use Rattle.std.specs.declared.option.Option.{Option}
 use Rattle.std.specs.declared.option.Option.the-variants.{Some, None}
@@ -54,6 +52,7 @@ module _ {T : Type 0} (j : Setting T) (cs : List ℕ) where
 
 -- a replay does not look at the drawing
 module _ {T : Type 0} (tone : Algebra T) (rows columns : ℕ) (plan : Ranks) (tables : Tables T) (f h : ℕ → T) (cs : List ℕ) where
+  -- the same setting on two drawings
   abbrev by-f : Setting T
   by-f = setting-of tone rows columns plan tables f
 

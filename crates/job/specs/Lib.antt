@@ -1,11 +1,11 @@
 pub mod Answers
 pub mod Coded
 pub mod Listings
+pub mod Maps
 pub mod Meaning
 pub mod Patterns
 pub mod Periods
 pub mod Progress
 pub mod Shown
 pub mod Single
-pub mod Upheld
 pub mod Worked

@@ -1,7 +1,7 @@
 // The squares that stand in a code band, worked again from the drawing: rank by rank, and each rank in reading order.
 ghost use mathlib.Core.Bool.{true};
 ghost use mathlib.Core.Path.{_≡_};
-ghost use Prim.Native.Nat.{ℕ, suc, _+_, _*_, _<_};
+ghost use Prim.Native.Nat.{suc, _+_, _*_, _<_};
 ghost use lib.ListN.{length};
 ghost use Rattle.model.specs.Replays.{replay-at, replay-visit, replay-sweep, replay};
 ghost use Rattle.job.specs.Meaning.{squares-of, setting-by};

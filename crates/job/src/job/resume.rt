@@ -1,7 +1,6 @@
 // Resume: the job that a record tells of, brought back in lent bands.
-ghost use mathlib.Core.Bool.{true, false};
 ghost use mathlib.Core.Path.{_≡_};
-ghost use Prim.Native.Nat.{suc, _+_, _*_};
+ghost use Prim.Native.Nat.{_+_, _*_};
 ghost use lib.ListN.{length};
 ghost use Rattle.bits.specs.Bits.{bytes-for};
 ghost use Rattle.model.specs.Calls.{told};

@@ -1,4 +1,4 @@
-use mathlib.Core.Path.{_≡_, sym, ap, ap₂}
+use mathlib.Core.Path.{sym, ap, ap₂}
 use mathlib.Core.Bool.{_&&_}
 use Prim.Native.Nat.{_+_, _*_}
 use lib.Dec.{eqb}

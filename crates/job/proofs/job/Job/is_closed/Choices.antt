@@ -3,8 +3,8 @@ use mathlib.Core.Path.{_≡_}
 use Prim.Native.Nat.{_*_}
 use Rattle.model.specs.Records.{all-below}
 use Rattle.job.specs.Meaning.{squares-of}
-use Rattle.job.specs.Upheld.{upheld}
+use Rattle.job.specs.Maps.{may-stand}
 use Rattle.job.proofs.job.Job.is_closed.Given as given
 
 abbrev pub Inv-loop-row : given.InvT-loop-row
-Inv-loop-row g l = all-below (upheld (squares-of (g .P·Plan .meaning) (l .self)) (l .saved)) (l .row * l .self .size .columns) ≡ true
+Inv-loop-row g l = all-below (may-stand (squares-of (g .P·Plan .meaning) (l .self)) (l .saved)) (l .row * l .self .size .columns) ≡ true

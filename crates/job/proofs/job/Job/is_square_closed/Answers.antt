@@ -1,6 +1,6 @@
-use mathlib.Core.Path.{_≡_, sym, ap, ap₂, _∙_}
+use mathlib.Core.Path.{sym, ap, _∙_}
 use mathlib.Core.Bool.{not, _||_}
-use Prim.Native.Nat.{_+_, _*_, _<_}
+use Prim.Native.Nat.{_+_, _*_}
 use native.Mathlib.Nat.{mul-comm}
 use native.Mathlib.Omega.{arith}
 use Rattle.std.proofs.shelf.Bits.{mul-add-lt}
@@ -23,8 +23,8 @@ returns-then-not-is-standing g c =
     let s = c .args .row * j .size .columns + c .args .column in
     sym (ap (λ b. not b || ready-by (squares-of (g .P·Plan .meaning) j) (stands (c .args .saved .now)) s 8) (sym (c .if-not-is-standing .ensures tt)))
 
-pub is-upheld-requires : need.is-upheld-requires
-is-upheld-requires g c κs =
+pub all-lower-stand-requires : need.all-lower-stand-requires
+all-lower-stand-requires g c κs =
     let size = c .args .self .now .size in
     record {
       inside = omega (arith, mul-add-lt (c .args .row) (size .columns) (c .args .column) (size .rows) (c .pre .row) (c .pre .column), mul-comm (size .rows) (size .columns));
@@ -36,5 +36,5 @@ pub returns : need.returns
 returns g c =
     let j = c .args .self .now in
     let s = c .args .row * j .size .columns + c .args .column in
-    c .is-upheld .ensures
+    c .all-lower-stand .ensures
     ∙ sym (ap (λ b. not b || ready-by (squares-of (g .P·Plan .meaning) j) (stands (c .args .saved .now)) s 8) (sym (c .if-not-is-standing .ensures tt)))

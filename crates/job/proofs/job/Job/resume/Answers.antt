@@ -1,9 +1,6 @@
-use mathlib.Core.Path.{_≡_, refl, sym, ap, _∙_}
-use mathlib.Core.Bool.{true}
-use Prim.Native.Nat.{_+_, _*_, _≤_}
+use mathlib.Core.Path.{sym, ap, _∙_}
 use native.Mathlib.Omega.{arith}
-use lib.ListN.{length, replicate}
-use Rattle.model.specs.Jobs.{fits}
+use lib.ListN.{replicate}
 use Rattle.job.specs.Meaning.{meant, band}
 use Rattle.job.proofs.Fitting.{fitting}
 use Rattle.job.proofs.Resuming.{due-length, refused-form, refused-map, accepted, refused-code}
@@ -46,6 +43,12 @@ returns-then-rework g c =
     (g .Tone·Tone·met .lawful) (g .P·Plan·met .lawful (j .plan)) (g .Q·Quantiser·met .sound (j .quantiser))
     (sym (c .if-not-lengths-match .ensures tt)) (sym (c .if-not-is-well-formed .ensures tt)) (sym (c .if-not-is-closed .ensures tt))
     (c .rework .last .codes) (c .rework .last .amounts) (c .if-rework .ensures tt)
+
+pub copy-from-slice-requires : need.copy-from-slice-requires
+copy-from-slice-requires g c κs =
+    let p = meant (g .Tone·Tone .algebra) (g .P·Plan .meaning) (g .Q·Quantiser .tables) (c .args .self .now) (c .args .drawing .now) in
+    let f = fitting p (band (c .args .codes .now) (c .args .amounts .now)) (sym (c .if-not-lengths-match .ensures tt)) in
+    c .rework .kept .amounts ∙ f .amounts ∙ sym (f .drawing)
 
 pub returns : need.returns
 returns g c =

@@ -1,12 +1,10 @@
-use mathlib.Core.Path.{_≡_, refl, sym, ap, _∙_}
-use Prim.Native.Nat.{_+_, _*_, _≤_}
+use mathlib.Core.Path.{refl, sym, ap, _∙_}
+use Prim.Native.Nat.{_+_}
 use native.Mathlib.Omega.{arith}
 use lib.ListN.{length}
 use Rattle.std.proofs.shelf.Tests.{false≢true}
 use Rattle.bits.specs.Bits.{bytes-for}
 use Rattle.model.specs.Records.{stand-below}
-use Rattle.model.specs.Replays.{codes-in}
-use Rattle.job.specs.Coded.{Each-coded}
 use Rattle.job.specs.Meaning.{setting-by}
 use Rattle.job.proofs.Resuming.{reworked-not, reworked-by}
 use Rattle.job.proofs.job.Job.rework.Needs as need

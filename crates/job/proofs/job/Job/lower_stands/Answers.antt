@@ -1,14 +1,11 @@
-use mathlib.Core.Path.{_≡_, sym, ap, _∙_}
-use Prim.Native.Nat.{_+_, _*_, _/_, _<_, _≤_}
+use mathlib.Core.Path.{sym, ap, _∙_}
+use Prim.Native.Nat.{_*_}
 use native.Mathlib.Omega.{arith}
-use lib.ListN.{length}
-use Rattle.bits.specs.Bits.{bytes-for}
 use Rattle.diffusion.specs.Sets.{okay}
 use Rattle.model.specs.Records.{stands}
-use Rattle.job.specs.Patterns.{beside}
 use Rattle.job.proofs.Around.{lower-some, lower-not, lower-inside}
 use Rattle.job.proofs.Forms.{bit-within}
-use Rattle.job.proofs.job.Job.is_upheld_by.Needs as need
+use Rattle.job.proofs.job.Job.lower_stands.Needs as need
 
 pub is-standing-requires : need.is-standing-requires
 is-standing-requires g c κs =

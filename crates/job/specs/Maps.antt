@@ -7,5 +7,5 @@ use Rattle.diffusion.specs.Sets.{ready-by}
 use Rattle.model.specs.Records.{stands}
 
 -- it does not stand, or all its lower neighbours do
-abbrev pub upheld : Neighbourhood → List ℕ → ℕ → Bool
-upheld squares rec s = not (stands rec s) || ready-by squares (stands rec) s 8
+abbrev pub may-stand : Neighbourhood → List ℕ → ℕ → Bool
+may-stand squares rec s = not (stands rec s) || ready-by squares (stands rec) s 8
