@@ -1,6 +1,5 @@
 -- A row in steps of a whole column period: the columns between have other ranks, and inner squares have the same pattern.
 use mathlib.Core.Path.{_≡_, refl, sym, ap, ap₂, subst, _∙_}
-use mathlib.Core.Bool.{Bool, cond}
 use mathlib.Core.List.{List}
 use mathlib.Core.Logic.{inl, inr}
 use Prim.Native.Nat.{ℕ, _+_, _-_, _*_, _%_, _<_, _≤_}
@@ -8,8 +7,7 @@ use native.Mathlib.Nat.{mul-comm, mod-eq-of-lt, mod-add-mod, mod-eq-sub-mod, add
 use native.Mathlib.Omega.{arith}
 use lib.Dec.{ltb}
 use lib.ListN.{getD}
-use Rattle.std.specs.declared.option.Option.{Option}
-use Rattle.std.specs.declared.option.Option.the-variants.{Some, None}
+use Rattle.std.specs.declared.option.Option.the-variants.{Some}
 use Rattle.std.proofs.shelf.Bits.{mul-add-lt, mod-below}
 use Rattle.std.proofs.shelf.Tests.{cond-true, lt-ltb, cases-lt, cases-order}
 use Rattle.tone.specs.Algebra.{Algebra}

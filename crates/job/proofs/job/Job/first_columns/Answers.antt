@@ -1,9 +1,8 @@
-use mathlib.Core.Path.{_≡_, subst, sym}
-use mathlib.Core.Logic.{_≢_, inl, inr}
-use Prim.Native.Nat.{ℕ, _<_}
+use mathlib.Core.Logic.{_≢_}
+use Prim.Native.Nat.{_<_}
 use borrow.Author.Count.{below-more}
 use native.Mathlib.Omega.{arith}
-use lib.ListN.{length, getD, set, length-set}
+use lib.ListN.{length, length-set}
 use lib.Seq.{getD-set-same, getD-set-other}
 use Rattle.job.proofs.job.Job.first_columns.Needs as need
 
