@@ -6,16 +6,14 @@ use Prim.Native.Nat.{ℕ, zero, suc, _+_, _*_, _<_, _≤_}
 use native.Mathlib.Nat.{add-assoc, add-zero, add-suc, add-mul, one-mul}
 use native.Mathlib.Numerals.{add-one}
 use native.Mathlib.Omega.{arith}
-use lib.Dec.{eqb}
 use lib.ListN.{getD}
 use Rattle.std.proofs.shelf.Tests.{cases-bool, eq-eqb, ne-eqb}
 use Rattle.diffusion.specs.Bands.{Bands, standing, fixed-in}
 use Rattle.diffusion.specs.Draft.{Setting}
 use Rattle.diffusion.specs.Sets.{every, ready-by}
-use Rattle.diffusion.specs.Sweeps.{due-in, visit-in, pass-in, passed-in, sweep-in, swept-in}
+use Rattle.diffusion.specs.Sweeps.{due-in, pass-in, passed-in, sweep-in, swept-in}
 use Rattle.model.specs.Calls.{Answer, Told, told, fix-at}
 use Rattle.model.specs.Calls.Answer.{Code, Followed, Count, Resumed, Totals, Refused}
-use Rattle.model.specs.Fixes.{refusal}
 use Rattle.job.specs.Progress.{Progress, progress, and-then, visited, passed-from, passed-below, swept-below}
 use Rattle.job.specs.Single.{attempt}
 use Rattle.job.proofs.Refusing.{refused-fixed, refused-waiting, not-refused}

@@ -1,6 +1,5 @@
 -- A row in steps of a whole column period: the columns between have other ranks, and inner squares have the same pattern.
 use mathlib.Core.Path.{_≡_, refl, sym, ap, ap₂, subst, _∙_}
-use mathlib.Core.Bool.{Bool, cond}
 use mathlib.Core.List.{List}
 use mathlib.Core.Logic.{inl, inr}
 use Prim.Native.Nat.{ℕ, _+_, _-_, _*_, _%_, _<_, _≤_}
@@ -8,8 +7,7 @@ use native.Mathlib.Nat.{mul-comm, mod-eq-of-lt, mod-add-mod, mod-eq-sub-mod, add
 use native.Mathlib.Omega.{arith}
 use lib.Dec.{ltb}
 use lib.ListN.{getD}
-use Rattle.std.specs.declared.option.Option.{Option}
-use Rattle.std.specs.declared.option.Option.the-variants.{Some, None}
+use Rattle.std.specs.declared.option.Option.the-variants.{Some}
 use Rattle.std.proofs.shelf.Bits.{mul-add-lt, mod-below}
 use Rattle.std.proofs.shelf.Tests.{cond-true, lt-ltb, cases-lt, cases-order}
 use Rattle.tone.specs.Algebra.{Algebra}
@@ -86,25 +84,44 @@ module _ (plan : Ranks) (law : plans.Lawful plan) where
   reduced-rank : (row k : ℕ) → plan .rank row (k % plan .columnPeriod) ≡ plan .rank row k
   reduced-rank row k = same-rank row (k % plan .columnPeriod) k (mod-eq-of-lt (within-period k))
 
-  module _ (rank row : ℕ) where
+  module _ (columns rank row : ℕ) where
+    -- the first column of a period with the rank
+    pub first-found : (column : ℕ) → column < plan .columnPeriod → plan .rank row column ≡ rank → ((k : ℕ) → k < column → plan .rank row k ≡ rank → ⊥) → First columns plan rank row column
+    first-found column within has others = record { within = λ _. within; has = λ _. has; before = λ k _ l. others k l }
+
     -- a rank that no column of one period has is nowhere in the row
-    pub found-none : ((column : ℕ) → column < plan .columnPeriod → plan .rank row column ≡ rank → ⊥) → (column : ℕ) → plan .rank row column ≡ rank → ⊥
-    found-none lacks column is = lacks (column % plan .columnPeriod) (within-period column) (reduced-rank row column ∙ is)
+    pub first-none : ((k : ℕ) → k < plan .columnPeriod → plan .rank row k ≡ rank → ⊥) → First columns plan rank row columns
+    first-none lacks = record {
+      within = λ l. absurd (omega arith);
+      has = λ l. absurd (omega arith);
+      before = λ k _ _ is. lacks (k % plan .columnPeriod) (within-period k) (reduced-rank row k ∙ is);
+    }
+
+    -- rows that are equal modulo the row period have the same first column
+    pub first-same : (other first : ℕ) → other % plan .rowPeriod ≡ row % plan .rowPeriod → First columns plan rank other first → First columns plan rank row first
+    first-same other first same at =
+        let ranks : (c : ℕ) → plan .rank other c ≡ plan .rank row c
+        = λ c. law .repeats other c ∙ ap (λ r. plan .rank r (c % plan .columnPeriod)) same ∙ sym (law .repeats row c) in
+        record { within = at .within; has = λ l. sym (ranks first) ∙ at .has l; before = λ k inside l is. at .before k inside l (ranks k ∙ is) }
 
     -- a first column that is the only one of its period
-    pub lone : (first : ℕ) → First plan rank row first → ((column : ℕ) → first < column → column < plan .columnPeriod → plan .rank row column ≡ rank → ⊥) → Lone plan rank row first
-    lone first at others = record {
-      within = at .within;
-      has = at .has;
+    pub lone : (first : ℕ) → first < columns → First columns plan rank row first → ((k : ℕ) → first < k → k < plan .columnPeriod → plan .rank row k ≡ rank → ⊥) → Lone plan rank row first
+    lone first inside at others = record {
+      within = at .within inside;
+      has = at .has inside;
       only = λ column is.
           let m = column % plan .columnPeriod in
           let here : plan .rank row m ≡ rank = reduced-rank row column ∙ is in
           elim (cases-order m first) [
             | inl same ↦ same
-            | inr (inl l) ↦ absurd (at .before m l here)
+            | inr (inl l) ↦ absurd (at .before m (omega arith) l here)
             | inr (inr l) ↦ absurd (others m l (within-period column) here)
           ];
     }
+
+-- the next number modulo q
+pub next-modulo : (q row phase next : ℕ) → phase ≡ row % q → next ≡ (phase + 1) % q → next ≡ (row + 1) % q
+next-modulo q row phase next is to = to ∙ ap (λ n. (n + 1) % q) is ∙ mod-add-mod row q 1
 
 module _ (rows columns : ℕ) (plan : Ranks) (law : plans.Lawful plan) (row from to : ℕ) (at : Inner rows columns row from to) (on : from ≤ to)
     (periods : to % plan .columnPeriod ≡ from % plan .columnPeriod) where
@@ -153,10 +170,11 @@ module _ {T : Type 0} (tone : Algebra T) (rows columns : ℕ) (plan : Ranks) (la
   place-rank k l = lays-out rows columns plan law .rank row k l
 
   -- a row without the rank is passed over
-  pub row-lacks : ((column : ℕ) → plan .rank row column ≡ rank → ⊥) → progress 0 start ≡ passed-from setting rank (row * columns) columns start
-  row-lacks lacks =
+  pub row-lacks : (first : ℕ) → columns ≤ first → First columns plan rank row first → progress 0 start ≡ passed-from setting rank (row * columns) columns start
+  row-lacks first out at =
       let whole : 0 + columns ≡ columns = omega arith in
-      from-quiet setting rank (row * columns) 0 columns 0 start start (sym (from-none setting rank (row * columns) start)) (λ m low high is. lacks m (sym (place-rank m (omega arith)) ∙ is))
+      from-quiet setting rank (row * columns) 0 columns 0 start start (sym (from-none setting rank (row * columns) start))
+      (λ m low high is. at .before m (omega arith) (omega arith) (sym (place-rank m (omega arith)) ∙ is))
       ∙ ap (λ n. passed-from setting rank (row * columns) n start) whole
 
   -- what the steps keep: the row is passed up to each column less than a period before the next step

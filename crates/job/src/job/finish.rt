@@ -1,20 +1,29 @@
 // Finish: every square that is still open, rank by rank.
 ghost use mathlib.Core.Bool.{true};
 ghost use mathlib.Core.Path.{_≡_};
-ghost use Prim.Native.Nat.{_+_, _*_, _<_, _≤_};
-ghost use lib.ListN.{length};
+ghost use Prim.Native.Nat.{ℕ, _+_, _*_, _%_, _<_, _≤_};
+ghost use lib.ListN.{length, getD};
 ghost use Rattle.model.specs.Calls.{told};
 ghost use Rattle.model.specs.Steps.{finish-on};
 ghost use Rattle.job.specs.Answers.{counted};
 ghost use Rattle.job.specs.Meaning.{squares-of, meant, setting-by, band};
 ghost use Rattle.job.specs.Patterns.{Pattern-of};
-ghost use Rattle.job.specs.Periods.{Found, First, Lone, Inner};
+ghost use Rattle.job.specs.Periods.{First, Lone, Inner};
 ghost use Rattle.job.specs.Progress.{progress, visited, passed-from, passed-below, swept-below};
 use crate::job::Job;
 use crate::pattern::Pattern;
 use plan::Plan;
 use quantiser::Quantiser;
 use refusal::Refusal;
+
+// The number after a phase of a period: rows are counted by it without a division.
+fn next_phase(phase: usize, period: usize) -> usize
+    requires { ⌜ phase < period ⌝ }
+    ensures value { λ r. ⌜ r ≡ (phase + 1) % period ⌝ }
+    ensures bound { λ r. ⌜ r ≤ phase + 1 ⌝ }
+{
+    if phase + 1 < period { phase + 1 } else { 0 }
+}
 
 impl<P: Plan, Q: Quantiser> Job<P, Q> {
     // Fixes the square at a place, whose pattern is told, if it is open and ready, and answers how many were fixed: 1 or 0.
@@ -57,21 +66,34 @@ impl<P: Plan, Q: Quantiser> Job<P, Q> {
         count
     }
 
-    // The first column of a row with a rank. The ranks repeat, so that one period tells.
-    fn first_column(&self, rank: u8, row: usize) -> Option<usize>
-        ensures { λ r. ⌜ Found (P·Plan .meaning (now (self .entry) .plan)) rank row r ⌝ }
+    // The first column of a row with a rank; the number of columns where there is none. The ranks repeat, so that one period tells.
+    fn first_column(&self, rank: u8, row: usize) -> usize
+        ensures { λ r. ⌜ First (now (self .entry) .size .columns) (P·Plan .meaning (now (self .entry) .plan)) rank row r ⌝ }
     {
         for column in 0..self.plan.column_period() {
             if self.plan.rank(row, column) == rank {
-                return Some(column);
+                return column;
             }
         }
-        None
+        self.size.columns
+    }
+
+    // The same for each row of the first period: asked once for a rank, they serve every row.
+    fn first_columns(&self, rank: u8) -> [usize; 16]
+        ensures full { λ r. ⌜ length r ≡ 16 ⌝ }
+        ensures each { λ r. ⌜ ((row : ℕ) → row < P·Plan .meaning (now (self .entry) .plan) .rowPeriod → row < now (self .entry) .size .rows → First (now (self .entry) .size .columns) (P·Plan .meaning (now (self .entry) .plan)) rank row (getD r row 0)) ⌝ }
+    {
+        let mut firsts = [0; 16];
+        for row in 0..self.plan.row_period().min(self.size.rows) {
+            firsts[row] = self.first_column(rank, row);
+        }
+        firsts
     }
 
     // Whether the first column of a row with a rank is the only one of its period.
     fn is_lone(&self, rank: u8, row: usize, first: usize) -> bool
-        requires { ⌜ First (P·Plan .meaning (now self .plan)) rank row first ⌝ }
+        requires inside { ⌜ first < now self .size .columns ⌝ }
+        requires first { ⌜ First (now self .size .columns) (P·Plan .meaning (now self .plan)) rank row first ⌝ }
         ensures { λ r. ⌜ (r ≡ true → Lone (P·Plan .meaning (now (self .entry) .plan)) rank row first) ⌝ }
     {
         for column in first + 1..self.plan.column_period() {
@@ -125,18 +147,26 @@ impl<P: Plan, Q: Quantiser> Job<P, Q> {
         count
     }
 
-    // Fixes the ready squares of one rank in a row, and answers how many: by steps of a period where it has one such column.
-    fn pass_row(&self, amounts: &mut [Q::Tone], codes: &mut [u8], rank: u8, row: usize) -> usize
+    // Fixes the ready squares of one rank in a row, whose first column is told, and answers how many: by steps of a period where it has one such column.
+    fn pass_row(
+        &self,
+        amounts: &mut [Q::Tone],
+        codes: &mut [u8],
+        rank: u8,
+        row: usize,
+        first: usize,
+    ) -> usize
         requires row { ⌜ row < now self .size .rows ⌝ }
+        requires first { ⌜ First (now self .size .columns) (P·Plan .meaning (now self .plan)) rank row first ⌝ }
         requires amounts { ⌜ length (now amounts) ≡ now self .size .rows * now self .size .columns ⌝ }
         requires codes { ⌜ length (now codes) ≡ now self .size .rows * now self .size .columns ⌝ }
         ensures few { λ r. ⌜ r ≤ now (self .entry) .size .columns ⌝ }
         ensures after { λ r. ⌜ progress r (band (now (codes .exit)) (now (amounts .exit))) ≡ passed-from (setting-by (Tone·Tone .algebra) (P·Plan .meaning) (Q·Quantiser .tables) (now (self .entry))) rank (row * now (self .entry) .size .columns) (now (self .entry) .size .columns) (band (now (codes .entry)) (now (amounts .entry))) ⌝ }
     {
-        let Some(first) = self.first_column(rank, row) else {
+        if first >= self.size.columns {
             return 0;
-        };
-        if first < self.size.columns && self.is_lone(rank, row, first) {
+        }
+        if self.is_lone(rank, row, first) {
             self.stride_row(amounts, codes, rank, row, first)
         } else {
             self.scan_row(amounts, codes, rank, row)
@@ -150,9 +180,13 @@ impl<P: Plan, Q: Quantiser> Job<P, Q> {
         ensures few { λ r. ⌜ r ≤ now (self .entry) .size .rows * now (self .entry) .size .columns ⌝ }
         ensures after { λ r. ⌜ progress r (band (now (codes .exit)) (now (amounts .exit))) ≡ passed-below (setting-by (Tone·Tone .algebra) (P·Plan .meaning) (Q·Quantiser .tables) (now (self .entry))) rank (now (self .entry) .size .rows * now (self .entry) .size .columns) (band (now (codes .entry)) (now (amounts .entry))) ⌝ }
     {
+        let firsts = self.first_columns(rank);
+        let period = self.plan.row_period();
+        let mut phase = 0;
         let mut count = 0;
         for row in 0..self.size.rows {
-            count += self.pass_row(amounts, codes, rank, row);
+            count += self.pass_row(amounts, codes, rank, row, firsts[phase]);
+            phase = next_phase(phase, period);
         }
         count
     }

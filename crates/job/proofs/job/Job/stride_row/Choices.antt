@@ -1,6 +1,6 @@
 use mathlib.Core.Path.{_≡_}
 use Prim.Native.Nat.{ℕ, _+_, _-_, _*_, _%_, _<_, _≤_}
-use Rattle.job.specs.Meaning.{squares-of, setting-by, band}
+use Rattle.job.specs.Meaning.{setting-by, band}
 use Rattle.job.specs.Patterns.{Pattern-of}
 use Rattle.job.specs.Progress.{progress, passed-from}
 use Rattle.job.proofs.job.Job.stride_row.Given as given

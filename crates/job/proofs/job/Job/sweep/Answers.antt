@@ -1,8 +1,8 @@
-use mathlib.Core.Path.{_≡_, sym, ap, _∙_}
-use Prim.Native.Nat.{_+_, _*_}
+use mathlib.Core.Path.{_≡_, ap, _∙_}
+use Prim.Native.Nat.{_+_}
 use native.Mathlib.Omega.{arith}
 use Rattle.job.specs.Meaning.{setting-by, band}
-use Rattle.job.specs.Progress.{progress, swept-below}
+use Rattle.job.specs.Progress.{swept-below}
 use Rattle.job.proofs.Passes.{swept-none, rank-more}
 use Rattle.job.proofs.job.Job.sweep.Needs as need
 

@@ -1,5 +1,4 @@
 use native.Mathlib.Omega.{arith}
-use Rattle.model.specs.Calls.{Answer}
 use Rattle.job.specs.Answers.{coded}
 use Rattle.job.specs.Meaning.{setting-by, band}
 use Rattle.std.specs.declared.result.Result.the-variants.{Ok, Err}
