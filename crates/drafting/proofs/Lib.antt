@@ -1,0 +1,5 @@
+pub mod Converted
+pub mod DraftCodes
+pub mod Greys
+pub mod Packed
+pub mod Pictures

@@ -1,0 +1,8 @@
+// From a plain PGM to the raw PBM of its draft, bytes to bytes: Knuth's plan, the threshold 128, every square fixed.
+mod conversion;
+mod fault;
+mod finished;
+mod tones;
+
+pub use conversion::draft;
+pub use fault::DraftFault;
