@@ -1,7 +1,9 @@
 // Why there is no draft.
 use netpbm::Fault;
+use netpbm::FaultDebug;
+use netpbm::FaultPartialEq;
 
-#[derive(Clone, Copy)]
+#[derive(Clone, Copy, PartialEq, Eq, Debug)]
 pub enum DraftFault {
     // The input has more than 65,536 bytes.
     InputTooLong,

@@ -6,3 +6,5 @@ mod tones;
 
 pub use conversion::draft;
 pub use fault::DraftFault;
+pub use fault::DraftFaultDebug;
+pub use fault::DraftFaultPartialEq;
