@@ -2,9 +2,11 @@
 mod conversion;
 mod fault;
 mod finished;
+mod laws;
 mod tones;
 
 pub use conversion::draft;
 pub use fault::DraftFault;
 pub use fault::DraftFaultDebug;
 pub use fault::DraftFaultPartialEq;
+pub use laws::every_square_is_drafted;
