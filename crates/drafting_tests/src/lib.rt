@@ -1,0 +1,3 @@
+// The whole way from a PGM to a PBM on small files, with answers worked by hand.
+#[cfg(test)]
+mod tests;
