@@ -1,14 +1,11 @@
 // plansheet: prints the sheet of a plan that is told in words, as `plansheet knuth mirror shift 3 200`.
-mod fault;
 mod printing;
-mod words;
 
-use fault::Fault;
-use fault::FaultDisplay;
+use plan_words::FaultDisplay;
+use plan_words::parse_pile;
 use printing::print_sheet;
 use std::env;
 use std::error::AnyError;
-use words::parse_pile;
 
 // The words of the command line, without the program's own name.
 fn arguments(rt: &LibcRuntime) -> Result<Vec<String>, AnyError> {
