@@ -5,7 +5,7 @@ mod plain;
 use std::time::Instant;
 
 const LEAST: i32 = 128;
-const REPETITIONS: usize = 15;
+const REPETITIONS: usize = 41;
 
 // Tones 0 to 255 from a seed, smooth with some noise, the same in every run.
 fn drawing(rows: usize, columns: usize) -> Vec<i32> {

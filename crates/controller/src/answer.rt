@@ -1,7 +1,7 @@
 // What an export answers: two numbers, which C reads with no knowledge of Rust's enums.
 ghost use mathlib.Core.Path.{_≡_};
 ghost use Rattle.refusal.specs.Numbers.{number-of};
-ghost use Rattle.job.specs.Answers.{coded, counted};
+ghost use Rattle.job.specs.Answers.{coded, counted, followed, resumed};
 ghost use Rattle.controller.specs.Exports.{shown, answer};
 use refusal::Refusal;
 
@@ -40,6 +40,29 @@ pub(crate) fn code_told(told: Result<u8, Refusal>) -> Answer
     match told {
         Ok(code) => Answer {
             count: code as usize,
+            refusal: 0,
+        },
+        Err(refusal) => refused(refusal),
+    }
+}
+
+// How many were accepted, and the number of what was refused or 0.
+pub(crate) fn follow_told(told: (usize, u8)) -> Answer
+    ensures { λ r. ⌜ r ≡ shown (followed told) ⌝ }
+{
+    Answer {
+        count: told.0,
+        refusal: told.1,
+    }
+}
+
+// Acceptance, or why not.
+pub(crate) fn resume_told(told: Result<(), Refusal>) -> Answer
+    ensures { λ r. ⌜ r ≡ shown (resumed told) ⌝ }
+{
+    match told {
+        Ok(_) => Answer {
+            count: 0,
             refusal: 0,
         },
         Err(refusal) => refused(refusal),

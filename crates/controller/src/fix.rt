@@ -1,5 +1,7 @@
 // Fix, for C.
 ghost use mathlib.Core.Path.{_≡_};
+ghost use Rattle.model.specs.Calls.{told};
+ghost use Rattle.model.specs.Calls.Answer.{Refused};
 ghost use Rattle.model.specs.Steps.{fix-on};
 ghost use Rattle.job.specs.Meaning.{band};
 ghost use Rattle.controller.specs.Exports.{grey-job, sized, shown};
@@ -25,8 +27,8 @@ pub extern "C" fn sumbelgo_fix(
     row: usize,
     column: usize,
 ) -> Answer
-    ensures answer { λ r. ⌜ r ≡ shown (sized rows columns (fix-on (grey-job rows columns least (now (drawing .entry))) row column (band (now (codes .entry)) (now (amounts .entry)))) (band (now (codes .entry)) (now (amounts .entry))) .answer) ⌝ }
-    ensures bands { λ _. ⌜ band (now (codes .exit)) (now (amounts .exit)) ≡ sized rows columns (fix-on (grey-job rows columns least (now (drawing .entry))) row column (band (now (codes .entry)) (now (amounts .entry)))) (band (now (codes .entry)) (now (amounts .entry))) .state ⌝ }
+    ensures answer { λ r. ⌜ r ≡ shown (sized rows columns (fix-on (grey-job rows columns least (now (drawing .entry))) row column (band (now (codes .entry)) (now (amounts .entry)))) (told (Refused 1) (band (now (codes .entry)) (now (amounts .entry)))) .answer) ⌝ }
+    ensures bands { λ _. ⌜ band (now (codes .exit)) (now (amounts .exit)) ≡ sized rows columns (fix-on (grey-job rows columns least (now (drawing .entry))) row column (band (now (codes .entry)) (now (amounts .entry)))) (told (Refused 1) (band (now (codes .entry)) (now (amounts .entry)))) .state ⌝ }
 {
     match make(rows, columns, least) {
         Ok(job) => code_told(job.fix(drawing, amounts, codes, row, column)),
