@@ -11,6 +11,7 @@ mod gather;
 mod halt;
 mod lengths;
 mod losses;
+mod new;
 mod open;
 mod replay;
 mod resume;

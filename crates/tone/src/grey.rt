@@ -1,7 +1,8 @@
-// Grey: one signed channel.
+// Grey: one signed channel, laid out as one i32 for callers in C.
 ghost use Prim.Native.Nat.{_<_, _^_};
 ghost use lib.Signed.{mag};
 
+#[repr(C)]
 #[derive(Clone, Copy, PartialEq, Eq, Debug)]
 pub struct Grey {
     pub value: i32,

@@ -1,0 +1,127 @@
+// Times the proved library beside plain Rust on the same drawings, in one run, and checks that both leave the same codes and amounts.
+mod library;
+mod plain;
+
+use std::time::Instant;
+
+const LEAST: i32 = 128;
+const REPETITIONS: usize = 41;
+
+// Tones 0 to 255 from a seed, smooth with some noise, the same in every run.
+fn drawing(rows: usize, columns: usize) -> Vec<i32> {
+    let mut s = 0x9E37_79B9_7F4A_7C15u64;
+    let mut tones = vec![];
+    for row in 0..rows {
+        for column in 0..columns {
+            s ^= s << 13;
+            s ^= s >> 7;
+            s ^= s << 17;
+            let slope = 128 * row / rows + 96 * column / columns;
+            tones.push((slope as i32 + (s % 32) as i32).min(255));
+        }
+    }
+    tones
+}
+
+// The bands of one side.
+struct Bands {
+    amounts: Vec<i32>,
+    codes: Vec<u8>,
+}
+
+impl Bands {
+    fn new(squares: usize) -> Bands {
+        Bands {
+            amounts: vec![0; squares],
+            codes: vec![0; squares],
+        }
+    }
+}
+
+// Nanoseconds of the library and of the plain version, the best of some repetitions each, in turn. The bands are opened anew before each.
+fn best(
+    rows: usize,
+    columns: usize,
+    mut proved: impl FnMut(&[i32], &mut Bands),
+    mut plain: impl FnMut(&mut Bands),
+) -> (f64, f64) {
+    let tones = drawing(rows, columns);
+    let (mut a, mut b) = (Bands::new(rows * columns), Bands::new(rows * columns));
+    let (mut one, mut two) = (f64::MAX, f64::MAX);
+    for _ in 0..REPETITIONS {
+        assert_eq!(library::open(rows, columns, &tones, &mut a.amounts, &mut a.codes), 0);
+        let clock = Instant::now();
+        proved(&tones, &mut a);
+        one = one.min(clock.elapsed().as_nanos() as f64);
+        assert_eq!(library::open(rows, columns, &tones, &mut b.amounts, &mut b.codes), 0);
+        let clock = Instant::now();
+        plain(&mut b);
+        two = two.min(clock.elapsed().as_nanos() as f64);
+        assert!(a.codes == b.codes, "the codes differ");
+        assert!(a.amounts == b.amounts, "the amounts differ");
+    }
+    (one, two)
+}
+
+// Finish at a size.
+fn finish(rows: usize, columns: usize) -> (f64, f64) {
+    best(
+        rows,
+        columns,
+        |tones, b| {
+            let answer = library::finish(rows, columns, LEAST, tones, &mut b.amounts, &mut b.codes);
+            assert_eq!((answer.count, answer.refusal), (rows * columns, 0));
+        },
+        |b| plain::finish(rows, columns, LEAST, &mut b.amounts, &mut b.codes),
+    )
+}
+
+// Single fixes of all squares in rank order at a size.
+fn fixes(rows: usize, columns: usize) -> (f64, f64) {
+    let order = plain::in_rank_order(rows, columns);
+    let lists = plain::Lists::new(rows, columns);
+    best(
+        rows,
+        columns,
+        |tones, b| {
+            for (row, column) in &order {
+                let answer = library::fix(rows, columns, LEAST, tones, &mut b.amounts, &mut b.codes, *row, *column);
+                assert_eq!(answer.refusal, 0);
+            }
+        },
+        |b| {
+            for (row, column) in &order {
+                assert_eq!(lists.fix(LEAST, &mut b.amounts, &mut b.codes, *row, *column), 0);
+            }
+        },
+    )
+}
+
+// One line: the ratio first, then nanoseconds a square.
+fn line(what: &str, rows: usize, columns: usize, (proved, plain): (f64, f64)) {
+    let squares = (rows * columns) as f64;
+    println!(
+        "{what:<8}{:<14}{:>6.2} times    {:>7.2} ns a square proved    {:>7.2} ns a square plain",
+        format!("{rows} x {columns}"),
+        proved / plain,
+        proved / squares,
+        plain / squares
+    );
+}
+
+fn main() {
+    println!("Grey, Knuth's plan, threshold {LEAST}; the best of {REPETITIONS} repetitions; before each, all squares are opened and the drawing is laid into the amounts.");
+    println!("Codes and amounts of both were the same after each repetition.");
+    println!();
+    for (rows, columns) in [(1024, 1024), (256, 4096), (4096, 256)] {
+        line("Finish", rows, columns, finish(rows, columns));
+    }
+    for (rows, columns) in [(1024, 1024), (256, 4096), (4096, 256)] {
+        line("Fix", rows, columns, fixes(rows, columns));
+    }
+    println!();
+    println!("Growth");
+    for side in [64, 256, 1024] {
+        line("Finish", side, side, finish(side, side));
+    }
+}
