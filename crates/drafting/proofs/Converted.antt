@@ -1,5 +1,5 @@
 -- From what Read and Pack say to what is said of the whole way.
-use mathlib.Core.Path.{_≡_, sym, ap, subst, _∙_}
+use mathlib.Core.Path.{_≡_, ap, subst, _∙_}
 use mathlib.Core.List.{List, _++_, map}
 use Prim.Native.Nat.{ℕ, _*_, _<_, _≤_}
 use native.Mathlib.Omega.{arith}
@@ -11,7 +11,7 @@ use Rattle.refusal.specs.Numbers.{number-of}
 use Rattle.refusal.specs.declared.refusal.Refusal.{Refusal}
 use Rattle.grid.specs.Limits.{Within}
 use Rattle.netpbm.specs.Pbm.{pbm, pack-refusal}
-use Rattle.netpbm.specs.Pgm.{rows-in, columns-in, squares-in, tone-in, tones-read, filled, Drawing-read}
+use Rattle.netpbm.specs.Pgm.{rows-in, squares-in, tone-in, tones-read, filled, Drawing-read}
 use Rattle.drafting.specs.Drafts.{grey, codes-of, finished, draft-file, Readable}
 use Rattle.drafting.proofs.Packed.{too-short, short-file}
 use Rattle.drafting.proofs.Pictures.{room-for-all, band-front, codes-of-tones}
