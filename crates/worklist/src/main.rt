@@ -4,6 +4,8 @@ mod list;
 mod numbers;
 mod printing;
 mod reading;
+#[cfg(test)]
+mod tests;
 mod working;
 
 use calls::Window;
