@@ -56,8 +56,11 @@ pub impl fmt::Display for Fault as FaultDisplay {
                 f,
                 "'{word}' begins no line: write plan, threshold, size, tones, open, fix, follow, finish, halt, resume, tally or losses"
             ),
-            Fault::Form(form) => write!(f, "this line is written: {form}"),
-            Fault::NoNumber(word) => write!(f, "'{word}' is no whole number from 0 up"),
+            Fault::Form(form) => write!(f, "this line is to be written: {form}"),
+            Fault::NoNumber(word) => write!(
+                f,
+                "'{word}' is no whole number from 0 to 18446744073709551615"
+            ),
             Fault::NoTone(word) => write!(
                 f,
                 "'{word}' is no whole number from -2147483648 to 2147483647"
@@ -68,8 +71,8 @@ pub impl fmt::Display for Fault as FaultDisplay {
             ),
             Fault::Plan(fault) => write!(f, "{fault}"),
             Fault::Twice(name) => write!(f, "the {name} was told already"),
-            Fault::Late(name) => write!(f, "{name} stands before the first call"),
-            Fault::NoSize => write!(f, "the size stands before the first call"),
+            Fault::Late(name) => write!(f, "a line '{name}' stands only before the first call"),
+            Fault::NoSize => write!(f, "a line 'size' is wanted before the first call"),
             Fault::Memory => write!(f, "there is not enough memory"),
         }
     }

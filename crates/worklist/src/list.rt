@@ -15,6 +15,7 @@ pub enum Request {
     Losses,
 }
 
+// All that the lines tell.
 #[derive(Drop)]
 pub struct Worklist {
     // The plan, where one was told.

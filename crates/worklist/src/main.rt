@@ -4,6 +4,8 @@ mod list;
 mod numbers;
 mod printing;
 mod reading;
+#[cfg(test)]
+mod tests;
 mod working;
 
 use calls::Window;
@@ -71,6 +73,7 @@ fn work_all(rt: &LibcRuntime, list: &Worklist) -> Result<(), AnyError> {
     Ok(())
 }
 
+// Works nothing unless every line can be read.
 fn main(rt: LibcRuntime) -> Result<(), AnyError> {
     match read_all(&rt) {
         Ok(list) => rt.report(work_all(&rt, &list)),
