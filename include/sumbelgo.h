@@ -30,6 +30,8 @@
      7  a record has another size, a spare bit standing, or another length than is due
      8  a standing square of a record has a lower neighbour that does not stand
      9  a code of a record is not the one that the drawing gives
+    10  a square is open, where only fixed ones can be written
+    11  a square has a code above 1, which a bit cannot hold
    Where more than one applies, each function below says which comes first. */
 #ifndef SUMBELGO_H
 #define SUMBELGO_H
@@ -114,6 +116,13 @@ sumbelgo_answer sumbelgo_losses(size_t rows, size_t columns, int32_t least,
                                 const uint8_t *codes, size_t codes_len,
                                 size_t *places, size_t places_len,
                                 int32_t *errors, size_t errors_len);
+
+/* Pack: the draft as a raw PBM (P4) to the front of `out`, a bit to a square, 1 for code 0, each row padded to a byte. Refuses with 1, then 2 where the
+   codes are not as many as the squares, then 6, then 10 or 11 by the first square that is open or has a code above 1. The count is how many bytes were
+   written; what lies behind them stays as it was. */
+sumbelgo_answer sumbelgo_pack(size_t rows, size_t columns,
+                              const uint8_t *codes, size_t codes_len,
+                              uint8_t *out, size_t out_len);
 
 #ifdef __cplusplus
 }
