@@ -18,7 +18,8 @@
      - nothing else writes to that memory during a call;
      - the size, the threshold and the drawing stay those that the job was opened with. Other ones do no harm to memory, but the draft is then not
        that of one drawing.
-   Lengths that do not fit the size are refused, as is everything else below, and a refusal leaves all bands and outputs as they were, but for 9.
+   Lengths that do not fit the size are refused, as is everything else below, and a refusal leaves all bands and outputs as they were, but for 9, for what
+   sumbelgo_follow fixed before it, and for what sumbelgo_read read before it.
 
    Refusals, each by its number; 0 is none:
      1  the size: not 1 to 4,096 rows, 1 to 4,096 columns and at most 1,048,576 squares
@@ -30,6 +31,11 @@
      7  a record has another size, a spare bit standing, or another length than is due
      8  a standing square of a record has a lower neighbour that does not stand
      9  a code of a record is not the one that the drawing gives
+    10  a square is open, where only fixed ones can be written
+    11  a square has a code above 1, which a bit cannot hold
+    12  a file does not begin with P2 and a separator
+    13  a number is missing, malformed or above 65,535
+    14  a sample is above the greatest one, or the greatest one is outside 1 to 255
    Where more than one applies, each function below says which comes first. */
 #ifndef SUMBELGO_H
 #define SUMBELGO_H
@@ -55,6 +61,16 @@ typedef struct {
     int32_t amounts; /* the amounts of the open squares */
     uint8_t refusal;
 } sumbelgo_totals;
+
+/* What sumbelgo_read answers: the drawing's size and the offset behind its last sample; or the refusal's number and the offset of the number at fault,
+   the input's length where a number is missing, and 0 at 1, 6 and 12. What does not apply is 0. */
+typedef struct {
+    size_t rows;
+    size_t columns;
+    size_t end;
+    size_t offset;
+    uint8_t refusal;
+} sumbelgo_reading;
 
 /* Open. Answers 0, or 1, then 2. Every code is 255 and the amounts are the drawing; what the two bands held is not looked at. */
 uint8_t sumbelgo_open(size_t rows, size_t columns,
@@ -114,6 +130,19 @@ sumbelgo_answer sumbelgo_losses(size_t rows, size_t columns, int32_t least,
                                 const uint8_t *codes, size_t codes_len,
                                 size_t *places, size_t places_len,
                                 int32_t *errors, size_t errors_len);
+
+/* Pack: the draft as a raw PBM (P4) to the front of `out`, a bit to a square, 1 for code 0, each row padded to a byte. Refuses with 1, then 2 where the
+   codes are not as many as the squares, then 6, then 10 or 11 by the first square that is open or has a code above 1. The count is how many bytes were
+   written; what lies behind them stays as it was. */
+sumbelgo_answer sumbelgo_pack(size_t rows, size_t columns,
+                              const uint8_t *codes, size_t codes_len,
+                              uint8_t *out, size_t out_len);
+
+/* Read: the tones of a plain PGM (P2) without comments to the front of `band`, a byte each, the samples as they stand. Refuses with 12, then 13 for a number
+   before the samples, 1, 14 for the greatest sample, 6 where `band` is shorter than there are squares, and then with 13 or 14 at the first sample at
+   fault; the tones before that one are in `band` then. What lies behind the tones that were read stays as it was. */
+sumbelgo_reading sumbelgo_read(const uint8_t *input, size_t input_len,
+                               uint8_t *band, size_t band_len);
 
 #ifdef __cplusplus
 }

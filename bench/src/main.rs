@@ -2,7 +2,28 @@
 mod library;
 mod plain;
 
-use std::time::Instant;
+// Seconds and nanoseconds, as the C library tells them.
+#[repr(C)]
+struct Timespec {
+    seconds: i64,
+    nanoseconds: i64,
+}
+
+unsafe extern "C" {
+    fn clock_gettime(clock: i32, time: *mut Timespec) -> i32;
+}
+
+// The nanoseconds that this thread has had a processor for (clock 3 of Linux), so that other work on the machine counts less.
+fn processor_time() -> f64 {
+    let mut time = Timespec {
+        seconds: 0,
+        nanoseconds: 0,
+    };
+    // SAFETY: the time is ours, and laid out as C has it.
+    let told = unsafe { clock_gettime(3, &mut time) };
+    assert_eq!(told, 0);
+    time.seconds as f64 * 1e9 + time.nanoseconds as f64
+}
 
 const LEAST: i32 = 128;
 const REPETITIONS: usize = 41;
@@ -38,7 +59,7 @@ impl Bands {
     }
 }
 
-// Nanoseconds of the library and of the plain version, the best of some repetitions each, in turn. The bands are opened anew before each.
+// Nanoseconds of processor time of the library and of the plain version, the best of some repetitions each, in turn. The bands are opened anew before each.
 fn best(
     rows: usize,
     columns: usize,
@@ -50,13 +71,13 @@ fn best(
     let (mut one, mut two) = (f64::MAX, f64::MAX);
     for _ in 0..REPETITIONS {
         assert_eq!(library::open(rows, columns, &tones, &mut a.amounts, &mut a.codes), 0);
-        let clock = Instant::now();
+        let start = processor_time();
         proved(&tones, &mut a);
-        one = one.min(clock.elapsed().as_nanos() as f64);
+        one = one.min(processor_time() - start);
         assert_eq!(library::open(rows, columns, &tones, &mut b.amounts, &mut b.codes), 0);
-        let clock = Instant::now();
+        let start = processor_time();
         plain(&mut b);
-        two = two.min(clock.elapsed().as_nanos() as f64);
+        two = two.min(processor_time() - start);
         assert!(a.codes == b.codes, "the codes differ");
         assert!(a.amounts == b.amounts, "the amounts differ");
     }
@@ -110,7 +131,7 @@ fn line(what: &str, rows: usize, columns: usize, (proved, plain): (f64, f64)) {
 }
 
 fn main() {
-    println!("Grey, Knuth's plan, threshold {LEAST}; the best of {REPETITIONS} repetitions; before each, all squares are opened and the drawing is laid into the amounts.");
+    println!("Grey, Knuth's plan, threshold {LEAST}; processor time, the best of {REPETITIONS} repetitions; before each, all squares are opened and the drawing is laid into the amounts.");
     println!("Codes and amounts of both were the same after each repetition.");
     println!();
     for (rows, columns) in [(1024, 1024), (256, 4096), (4096, 256)] {

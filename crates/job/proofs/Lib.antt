@@ -7,6 +7,7 @@ pub mod Forms
 pub mod Kept
 pub mod KindLists
 pub mod Listed
+pub mod Lower
 pub mod Outputs
 pub mod Parting
 pub mod Parts

@@ -1,8 +1,11 @@
 -- Finish in parts: how many squares were fixed, and the bands after. The code works row by row, and the definition place by place.
-use mathlib.Core.Bool.{cond}
-use Prim.Native.Nat.{ℕ, zero, suc, _+_}
-use Rattle.diffusion.specs.Bands.{Bands}
+use mathlib.Core.Bool.{true, cond}
+use mathlib.Core.List.{List}
+use mathlib.Core.Path.{_≡_}
+use Prim.Native.Nat.{ℕ, zero, suc, _+_, _<_}
+use Rattle.diffusion.specs.Bands.{Bands, standing}
 use Rattle.diffusion.specs.Draft.{Setting}
+use Rattle.diffusion.specs.Neighbourhoods.{Neighbourhood}
 use Rattle.diffusion.specs.Sets.{every}
 use Rattle.diffusion.specs.Sweeps.{due-in, visit-in, pass-in, passed-in, sweep-in, swept-in}
 
@@ -34,3 +37,7 @@ module _ {T : Type 0} (j : Setting T) (rank : ℕ) where
 -- the ranks below n
 abbrev pub swept-below : {T : Type 0} → Setting T → ℕ → Bands T → Progress T
 swept-below j n b = progress (swept-in j every b n) (sweep-in j every b n)
+
+-- every square below a rank is fixed, so that no square of the rank waits
+abbrev pub Lower-stand : Neighbourhood → ℕ → List ℕ → Type 0
+Lower-stand squares rank codes = (s : ℕ) → s < squares .count → squares .rank s < rank → standing codes s ≡ true

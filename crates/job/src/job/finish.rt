@@ -9,12 +9,14 @@ ghost use Rattle.job.specs.Answers.{counted};
 ghost use Rattle.job.specs.Meaning.{squares-of, meant, setting-by, band};
 ghost use Rattle.job.specs.Patterns.{Pattern-of};
 ghost use Rattle.job.specs.Periods.{First, Lone, Inner};
-ghost use Rattle.job.specs.Progress.{progress, visited, passed-from, passed-below, swept-below};
+ghost use Rattle.job.specs.Progress.{progress, visited, passed-from, passed-below, swept-below, Lower-stand};
 use crate::job::Job;
+use crate::job::spread::OPEN;
 use crate::pattern::Pattern;
 use plan::Plan;
 use quantiser::Quantiser;
 use refusal::Refusal;
+use tone::Tone;
 
 // The number after a phase of a period: rows are counted by it without a division.
 fn next_phase(phase: usize, period: usize) -> usize
@@ -26,7 +28,8 @@ fn next_phase(phase: usize, period: usize) -> usize
 }
 
 impl<P: Plan, Q: Quantiser> Job<P, Q> {
-    // Fixes the square at a place, whose pattern is told, if it is open and ready, and answers how many were fixed: 1 or 0.
+    // Fixes the square at a place, whose pattern is told, if it is open, and answers how many were fixed: 1 or 0. The squares of lower rank are
+    // fixed, so that none has to be asked.
     fn visit(
         &self,
         amounts: &mut [Q::Tone],
@@ -35,21 +38,29 @@ impl<P: Plan, Q: Quantiser> Job<P, Q> {
         pattern: &Pattern,
     ) -> usize
         requires inside { ⌜ place < now self .size .rows * now self .size .columns ⌝ }
+        requires lower { ⌜ Lower-stand (squares-of (P·Plan .meaning) (now self)) (squares-of (P·Plan .meaning) (now self) .rank place) (now codes) ⌝ }
         requires amounts { ⌜ length (now amounts) ≡ now self .size .rows * now self .size .columns ⌝ }
         requires codes { ⌜ length (now codes) ≡ now self .size .rows * now self .size .columns ⌝ }
         requires pattern { ⌜ Pattern-of (squares-of (P·Plan .meaning) (now self)) place (now pattern .kinds) (now pattern .weights) (now pattern .last) ⌝ }
         ensures few { λ r. ⌜ r ≤ 1 ⌝ }
         ensures after { λ r. ⌜ progress r (band (now (codes .exit)) (now (amounts .exit))) ≡ visited (setting-by (Tone·Tone .algebra) (P·Plan .meaning) (Q·Quantiser .tables) (now (self .entry))) (squares-of (P·Plan .meaning) (now (self .entry)) .rank place) place (band (now (codes .entry)) (now (amounts .entry))) ⌝ }
     {
-        match self.settle(amounts, codes, place, pattern) {
-            Ok(_) => 1,
-            Err(_) => 0,
+        if codes[place] != OPEN {
+            return 0;
         }
+        let amount = amounts[place];
+        let code = self.quantiser.choose(amount);
+        let error = amount.difference(self.quantiser.output(code));
+        codes[place] = code;
+        amounts[place] = error;
+        self.spread(amounts, place, pattern, error);
+        1
     }
 
     // Fixes the ready squares of one rank in a row, column by column, and answers how many.
     fn scan_row(&self, amounts: &mut [Q::Tone], codes: &mut [u8], rank: u8, row: usize) -> usize
         requires row { ⌜ row < now self .size .rows ⌝ }
+        requires lower { ⌜ Lower-stand (squares-of (P·Plan .meaning) (now self)) rank (now codes) ⌝ }
         requires amounts { ⌜ length (now amounts) ≡ now self .size .rows * now self .size .columns ⌝ }
         requires codes { ⌜ length (now codes) ≡ now self .size .rows * now self .size .columns ⌝ }
         ensures few { λ r. ⌜ r ≤ now (self .entry) .size .columns ⌝ }
@@ -125,6 +136,7 @@ impl<P: Plan, Q: Quantiser> Job<P, Q> {
         requires row { ⌜ row < now self .size .rows ⌝ }
         requires first { ⌜ first < now self .size .columns ⌝ }
         requires lone { ⌜ Lone (P·Plan .meaning (now self .plan)) rank row first ⌝ }
+        requires lower { ⌜ Lower-stand (squares-of (P·Plan .meaning) (now self)) rank (now codes) ⌝ }
         requires amounts { ⌜ length (now amounts) ≡ now self .size .rows * now self .size .columns ⌝ }
         requires codes { ⌜ length (now codes) ≡ now self .size .rows * now self .size .columns ⌝ }
         ensures few { λ r. ⌜ r ≤ now (self .entry) .size .columns ⌝ }
@@ -158,6 +170,7 @@ impl<P: Plan, Q: Quantiser> Job<P, Q> {
     ) -> usize
         requires row { ⌜ row < now self .size .rows ⌝ }
         requires first { ⌜ First (now self .size .columns) (P·Plan .meaning (now self .plan)) rank row first ⌝ }
+        requires lower { ⌜ Lower-stand (squares-of (P·Plan .meaning) (now self)) rank (now codes) ⌝ }
         requires amounts { ⌜ length (now amounts) ≡ now self .size .rows * now self .size .columns ⌝ }
         requires codes { ⌜ length (now codes) ≡ now self .size .rows * now self .size .columns ⌝ }
         ensures few { λ r. ⌜ r ≤ now (self .entry) .size .columns ⌝ }
@@ -175,6 +188,7 @@ impl<P: Plan, Q: Quantiser> Job<P, Q> {
 
     // Fixes the ready squares of one rank in reading order, and answers how many.
     fn pass(&self, amounts: &mut [Q::Tone], codes: &mut [u8], rank: u8) -> usize
+        requires lower { ⌜ Lower-stand (squares-of (P·Plan .meaning) (now self)) rank (now codes) ⌝ }
         requires amounts { ⌜ length (now amounts) ≡ now self .size .rows * now self .size .columns ⌝ }
         requires codes { ⌜ length (now codes) ≡ now self .size .rows * now self .size .columns ⌝ }
         ensures few { λ r. ⌜ r ≤ now (self .entry) .size .rows * now (self .entry) .size .columns ⌝ }

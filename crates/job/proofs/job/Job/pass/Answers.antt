@@ -5,6 +5,7 @@ use native.Mathlib.Omega.{arith}
 use Rattle.std.proofs.shelf.Bits.{mod-below}
 use Rattle.job.specs.Meaning.{setting-by, band}
 use Rattle.job.specs.Progress.{passed-below}
+use Rattle.job.proofs.Lower.{lower-below}
 use Rattle.job.proofs.Passes.{below-none, row-more}
 use Rattle.job.proofs.Strides.{first-same, next-modulo}
 use Rattle.job.proofs.job.Job.pass.Needs as need
@@ -33,9 +34,11 @@ pass-row-count-requires g c κs =
     let least = law .rowPeriod .least in
     let below : row % plan .rowPeriod < plan .rowPeriod = mod-below row (plan .rowPeriod) (omega arith) in
     let short : phase < plan .rowPeriod = omega (arith, inv .1) in
+    let j = setting-by (g .Tone·Tone .algebra) (g .P·Plan .meaning) (g .Q·Quantiser .tables) job in
     record {
       row = c .loop-row-test .taken;
       first = first-same plan law (job .size .columns) (c .args .rank) row phase _ (mod-eq-of-lt short ∙ inv .1) (c .first-columns-firsts .ensures .each phase short (omega (arith, inv .0, c .loop-row-test .taken)));
+      lower = lower-below j (c .args .rank) (row * job .size .columns) (c .loop-row .count) (band (c .args .codes .now) (c .args .amounts .now)) (band (c .loop-row .codes) (c .loop-row .amounts)) (inv .3) (c .pre .lower);
       amounts = omega (arith, c .pre .amounts);
       codes = omega (arith, c .pre .codes);
     }

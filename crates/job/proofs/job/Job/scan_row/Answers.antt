@@ -6,6 +6,7 @@ use Rattle.std.proofs.shelf.Bits.{mul-add-lt}
 use Rattle.diffusion.proofs.Lines.{lays-out}
 use Rattle.job.specs.Meaning.{setting-by, band}
 use Rattle.job.specs.Progress.{progress, visited}
+use Rattle.job.proofs.Lower.{at-rank, lower-from}
 use Rattle.job.proofs.Passes.{from-none, from-more, from-other}
 use Rattle.job.proofs.job.Job.scan_row.Needs as need
 use Rattle.job.proofs.job.Job.scan_row.Needs.{then-rank, else-rank}
@@ -17,8 +18,16 @@ loop-column-holds g c =
 
 pub visit-count-requires : need.visit-count-requires
 visit-count-requires g c κs =
-    let size = c .args .self .now .size in
+    let job = c .args .self .now in
+    let size = job .size in
+    let plan = g .P·Plan .meaning (job .plan) in
+    let j = setting-by (g .Tone·Tone .algebra) (g .P·Plan .meaning) (g .Q·Quantiser .tables) job in
+    let k = c .loop-column .column in
+    let a = c .args .row * size .columns in
+    let is = lays-out (size .rows) (size .columns) plan (g .P·Plan·met .lawful (job .plan)) .rank (c .args .row) k (c .loop-column-test .taken) in
     record {
+      lower = at-rank (j .squares) (c .loop-column .codes) (j .squares .rank (a + k)) (c .args .rank) (is ∙ sym (c .rank .ensures) ∙ c .if-rank .taken)
+          (lower-from j (c .args .rank) a k (c .loop-column .count) (band (c .args .codes .now) (c .args .amounts .now)) (band (c .loop-column .codes) (c .loop-column .amounts)) (c .loop-column .inv .1) (c .pre .lower));
       inside = omega (arith, mul-add-lt (c .args .row) (size .columns) (c .loop-column .column) (size .rows) (c .pre .row) (c .loop-column-test .taken), mul-comm (size .rows) (size .columns));
       amounts = omega (arith, c .pre .amounts);
       codes = omega (arith, c .pre .codes);

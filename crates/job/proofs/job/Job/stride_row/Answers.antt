@@ -1,11 +1,13 @@
 use mathlib.Core.Path.{_≡_, refl, sym, ap, _∙_}
-use Prim.Native.Nat.{ℕ, _+_, _*_, _%_, _≤_}
+use Prim.Native.Nat.{ℕ, _+_, _*_, _%_, _<_, _≤_}
 use native.Mathlib.Nat.{mul-comm, mod-eq-of-lt, add-mod-right}
 use native.Mathlib.Omega.{arith}
 use Rattle.std.proofs.shelf.Bits.{mul-add-lt}
-use Rattle.job.specs.Meaning.{squares-of, band}
+use Rattle.diffusion.proofs.Lines.{lays-out}
+use Rattle.job.specs.Meaning.{squares-of, setting-by, band}
 use Rattle.job.specs.Patterns.{Pattern-of}
-use Rattle.job.proofs.Strides.{same-pattern, same-place, stride-none, stride-more}
+use Rattle.job.proofs.Lower.{at-rank, lower-from}
+use Rattle.job.proofs.Strides.{same-rank, same-pattern, same-place, stride-none, stride-more}
 use Rattle.job.proofs.job.Job.stride_row.Needs as need
 use Rattle.job.proofs.job.Job.stride_row.Needs.{then-not-is-inner, else-not-is-inner}
 
@@ -34,8 +36,19 @@ visit-count-requires g c κs =
     let squares = squares-of (g .P·Plan .meaning) job in
     let inv = c .loop-column .inv in
     let k = c .loop-column .column in
-    let s = c .args .row * columns + k in
+    let a = c .args .row * columns in
+    let s = a + k in
+    let plan = g .P·Plan .meaning (job .plan) in
+    let law = g .P·Plan·met .lawful (job .plan) in
+    let j = setting-by (g .Tone·Tone .algebra) (g .P·Plan .meaning) (g .Q·Quantiser .tables) job in
+    let within : k < columns = c .loop-column-test .taken in
+    let least = law .columnPeriod .least in
+    let own = lays-out rows columns plan law .rank (c .args .row) k within
+    ∙ same-rank plan law (c .args .row) k (c .args .first) (inv .2 ∙ sym (mod-eq-of-lt (c .pre .lone .within))) ∙ c .pre .lone .has in
+    let so-far = inv .7 k (omega arith) (omega (arith, least)) (omega (arith, within)) in
     record {
+      lower = at-rank squares (c .loop-column .codes) (squares .rank s) (c .args .rank) own
+          (lower-from j (c .args .rank) a k (c .loop-column .count) (band (c .args .codes .now) (c .args .amounts .now)) (band (c .loop-column .codes) (c .loop-column .amounts)) so-far (c .pre .lower));
       inside = omega (arith, mul-add-lt (c .args .row) columns k rows (c .pre .row) (c .loop-column-test .taken), mul-comm rows columns);
       amounts = omega (arith, c .pre .amounts);
       codes = omega (arith, c .pre .codes);
