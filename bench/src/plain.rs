@@ -215,3 +215,63 @@ pub fn in_rank_order(rows: usize, columns: usize) -> Vec<(usize, usize)> {
     }
     list
 }
+
+// A packer byte by byte: 1 for code 0, from the high bit, each row padded to a byte.
+pub fn pack(rows: usize, columns: usize, codes: &[u8], out: &mut [u8]) -> usize {
+    let head = format!("P4\n{columns} {rows}\n");
+    out[..head.len()].copy_from_slice(head.as_bytes());
+    let mut at = head.len();
+    for row in codes.chunks(columns) {
+        for eight in row.chunks(8) {
+            let mut byte = 0;
+            for (i, code) in eight.iter().enumerate() {
+                byte |= ((*code == 0) as u8) << (7 - i);
+            }
+            out[at] = byte;
+            at += 1;
+        }
+    }
+    at
+}
+
+// A reader of plain PGM files that are known to be whole.
+pub fn read(input: &[u8], band: &mut [u8]) -> usize {
+    let mut at = 2;
+    let mut next = || {
+        while input[at] <= b' ' {
+            at += 1;
+        }
+        let mut value = 0usize;
+        while at < input.len() && input[at] > b' ' {
+            value = value * 10 + (input[at] - b'0') as usize;
+            at += 1;
+        }
+        value
+    };
+    let (columns, rows, _) = (next(), next(), next());
+    for sample in &mut band[..rows * columns] {
+        *sample = next() as u8;
+    }
+    rows * columns
+}
+
+// The record of a job: size, map, codes.
+pub fn halt(rows: usize, columns: usize, codes: &[u8], out: &mut [u8]) -> usize {
+    out[..4].copy_from_slice(&[(rows >> 8) as u8, rows as u8, (columns >> 8) as u8, columns as u8]);
+    let mut at = 4;
+    for eight in codes.chunks(8) {
+        let mut byte = 0;
+        for (i, code) in eight.iter().enumerate() {
+            byte |= ((*code != 255) as u8) << (7 - i);
+        }
+        out[at] = byte;
+        at += 1;
+    }
+    for code in codes {
+        if *code != 255 {
+            out[at] = *code;
+            at += 1;
+        }
+    }
+    at
+}
