@@ -1,4 +1,6 @@
 // Bits in bytes: eight marks to a byte, high bit first, spare bits 0.
+#![tactic(auto)]
+
 mod byte;
 mod laws;
 mod mark;

@@ -1,4 +1,6 @@
 // Lists of calls: any list of the calls on a job, worked in turn on a new one, with the whole promise over them.
+#![tactic(auto)]
+
 mod call;
 mod laws;
 mod list;

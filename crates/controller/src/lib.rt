@@ -1,5 +1,7 @@
 // The library for controllers in C: grey drawings with Knuth's plan and a threshold, in bands that the caller owns. No call keeps anything,
 // so each takes the size and the threshold anew.
+#![tactic(auto)]
+
 mod answer;
 mod finish;
 mod fix;

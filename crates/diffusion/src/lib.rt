@@ -1,4 +1,6 @@
 // What a draft is, over any lawful tone, squares and quantiser: specs/ has the definitions, and the theorems about them stand here.
+#![tactic(auto)]
+
 mod laws;
 
 pub use laws::{

@@ -1,5 +1,7 @@
 // draft: reads a plain PGM from standard input and writes its draft to standard output as a raw PBM. Where there is no draft it writes
 // nothing and ends with status 1.
+#![tactic(auto)]
+
 use anyhow::anyhow;
 use drafting::draft;
 use std::io::{Read, Write};

@@ -1,4 +1,6 @@
 // From a plain PGM to the raw PBM of its draft, bytes to bytes: Knuth's plan, the threshold 128, every square fixed.
+#![tactic(auto)]
+
 mod conversion;
 mod fault;
 mod finished;

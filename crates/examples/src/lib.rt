@@ -1,4 +1,6 @@
 // Worked examples, shown of the definitions themselves: one list, and one statement that every example of it holds.
+#![tactic(auto)]
+
 ghost use Rattle.std.specs.List.{AllByRecursion as All};
 ghost use Rattle.examples.specs.Examples.{Holds, examples};
 

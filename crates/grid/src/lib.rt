@@ -1,4 +1,6 @@
 // The squares of a drawing: how many there may be, where each lies, and which squares touch it.
+#![tactic(auto)]
+
 mod direction;
 mod neighbour;
 mod size;

@@ -1,4 +1,6 @@
 // Jobs: a plan and a quantiser at work on a drawing, in bands that the caller lends.
+#![tactic(auto)]
+
 mod beside;
 mod form;
 mod job;

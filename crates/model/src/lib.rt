@@ -1,5 +1,7 @@
 // The calls on a job as pure functions: on bands of any content, and on sets of squares. Each function here is the bearer of a theorem over
 // every kind of tone T, and computes nothing.
+#![tactic(auto)]
+
 ghost use Rattle.model.specs.Theorems.{CallsAgreeWithTheModel, AnyCallAgreesWithTheModel, ListsOfCallsAgreeWithTheModel, ReplayJudgesEveryCode, ResumeIsAReplay, EveryListOfCallsKeepsTheDraft, FinishFixesEveryOpenSquare, SameSquaresSameBands, ResumeAcceptsJustWhatHaltWrites};
 
 // Each call on the bands of a closed set gives the bands of the set that the model makes, with the model's answers and outputs.

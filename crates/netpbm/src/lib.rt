@@ -1,4 +1,6 @@
 // Drawings in and drafts out, in two formats of Netpbm: a plain PGM is read, a raw PBM is written.
+#![tactic(auto)]
+
 mod codes;
 mod decimal;
 mod digits;

@@ -1,4 +1,6 @@
 // Piles: a plan and up to five layers over it, chosen at run time.
+#![tactic(auto)]
+
 mod layer;
 mod layered;
 mod pile;

@@ -1,4 +1,6 @@
 // Plans: a rank for each row and column, which repeats by two periods and differs between squares that touch.
+#![tactic(auto)]
+
 mod apart;
 mod doubling;
 mod either;

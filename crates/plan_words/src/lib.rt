@@ -1,4 +1,6 @@
 // Plans told in words, as `knuth mirror shift 3 200`, for programs that read one.
+#![tactic(auto)]
+
 mod fault;
 mod words;
 

@@ -1,4 +1,6 @@
 // plansheet: prints the sheet of a plan that is told in words, as `plansheet knuth mirror shift 3 200`.
+#![tactic(auto)]
+
 mod printing;
 
 use anyhow::anyhow;

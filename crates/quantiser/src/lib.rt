@@ -1,4 +1,6 @@
 // Quantisers: from a tone to a code, and from a code to the tone that it puts out.
+#![tactic(auto)]
+
 mod codes;
 mod counts;
 mod palette;

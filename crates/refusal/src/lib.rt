@@ -1,4 +1,6 @@
 // Why a call of the product says no: one enum for all of it, with a number and a reason for each case.
+#![tactic(auto)]
+
 mod reason;
 mod refusal;
 

@@ -1,4 +1,6 @@
 // The sheet of a plan: its ranks over one period, row by row, for a designer to pin up.
+#![tactic(auto)]
+
 mod line;
 mod ranks;
 

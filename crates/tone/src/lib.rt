@@ -1,4 +1,6 @@
 // Tones: kinds of amount with a zero, a sum, a difference and a share, and the laws that they keep.
+#![tactic(auto)]
+
 mod colour;
 mod grey;
 mod grey_tone;

@@ -1,4 +1,6 @@
 // worklist: works lists of calls on jobs, told in plain lines on standard input, and prints a line for each call.
+#![tactic(auto)]
+
 mod fault;
 mod list;
 mod numbers;
