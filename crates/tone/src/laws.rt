@@ -5,28 +5,28 @@ use crate::tone::Tone;
 
 // Tones that give equal sums with a third are equal, and a sum less one part is the other.
 pub fn sums_cancel<T: Tone>() -> u8
-    ensures { Cancels algebra }
+    ensures { Cancels T.algebra }
 {
     0
 }
 
 // A list and each permutation of it have the same sum.
 pub fn sums_in_any_order<T: Tone>() -> u8
-    ensures { InAnyOrder algebra }
+    ensures { InAnyOrder T.algebra }
 {
     0
 }
 
 // The sum of two lists one after the other is the sum of their sums, from any start.
 pub fn sums_join<T: Tone>() -> u8
-    ensures { Joins algebra }
+    ensures { Joins T.algebra }
 {
     0
 }
 
 // A table's rows summed and added are its columns summed and added.
 pub fn sums_exchange<T: Tone>() -> u8
-    ensures { Exchanges algebra }
+    ensures { Exchanges T.algebra }
 {
     0
 }

@@ -6,7 +6,7 @@ use crate::tone::Tone;
 
 // All tones of a band, in the tone's own sum.
 pub fn total<T: Tone>(band: &[T]) -> T
-    ensures { result ≡ sum_of algebra band.now }
+    ensures { result ≡ sum_of T.algebra band.now }
 {
     let mut sum = T::zero();
     for tone in band {

@@ -7,12 +7,12 @@ pub loop-k-init : goal.loop-k-init
 unfolding binary
 loop-k-init g c = refl
 
-pub overflow-mul-byte : goal.overflow-mul-byte
-overflow-mul-byte g c =
+pub overflow_mul-byte : goal.overflow_mul-byte
+overflow_mul-byte g c =
     omega (arith, binary_room _ (bit_at_le g.M.Mark.marks c.args.codes.now) c.loop-k.k (omega arith), c.loop-k.invariant)
 
-pub overflow-add-byte : goal.overflow-add-byte
-overflow-add-byte g c =
+pub overflow_add-byte : goal.overflow_add-byte
+overflow_add-byte g c =
     omega (arith, binary_room _ (bit_at_le g.M.Mark.marks c.args.codes.now) c.loop-k.k (omega arith), bit_at_le g.M.Mark.marks c.args.codes.now c.loop-k.k)
 
 pub loop-k-preserved : goal.loop-k-preserved

@@ -6,11 +6,11 @@ use Rattle.calls.proofs.list.work_on.Goals as goal
 
 pub loop-i-preserved : goal.loop-i-preserved
 loop-i-preserved g c =
-    turn_by (meant g.Tone.Tone.algebra g.P.Plan.meaning g.Q.Quantiser.tables c.args.job.now c.args.drawing.now) c.args.calls.now c.args.answers.now _ c.loop-i.i c.call-at-call.result
+    turn_by (meant g.Tone.Tone.algebra g.P.Plan.meaning g.Q.Quantiser.tables c.args.job.now c.args.drawing.now) c.args.calls.now c.args.answers.now _ c.loop-i.i c.call_at-call.result
     c.loop-i.answers c.put.new.list c.perform-answer.result
     (band c.loop-i.codes c.loop-i.amounts) (band c.perform-answer.new.codes c.perform-answer.new.amounts)
     (pools c.loop-i.bytes c.loop-i.places c.loop-i.errors) (pools c.perform-answer.new.bytes c.perform-answer.new.places c.perform-answer.new.errors)
-    (omega arith) (omega arith) c.call-at-call.ensures c.perform-answer.ensures c.put.ensures c.loop-i.invariant
+    (omega arith) (omega arith) c.call_at-call.ensures c.perform-answer.ensures c.put.ensures c.loop-i.invariant
 
 pub returns : goal.returns
 returns g c =

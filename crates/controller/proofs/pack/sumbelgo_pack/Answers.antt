@@ -15,7 +15,7 @@ returns-in-Ok c =
     let limits : Within size.rows size.columns = record { tall = size.tall; low = size.low; wide = size.wide; narrow = size.narrow; small = size.small } in
     let is = within_true rows columns (subst₂ (λ m n. Within m n) e.0 e.1 limits) in
     record {
-      inside = λ w. subst₂ (λ m n. PackedAt m n c.args.codes.now c.args.out.now c.pack-at.result c.pack-at.new.out) e.0 e.1 c.pack-at.ensures;
+      inside = λ w. subst₂ (λ m n. PackedAt m n c.args.codes.now c.args.out.now c.pack_at.result c.pack_at.new.out) e.0 e.1 c.pack_at.ensures;
       refused = λ f. absurd (both_ways (within rows columns) f is);
       kept = λ f. absurd (both_ways (within rows columns) f is);
     }

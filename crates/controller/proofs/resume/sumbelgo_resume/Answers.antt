@@ -16,7 +16,7 @@ returns-in-Ok c =
     let barred : ℕ → Told Grey (Bands Grey) = λ n. told (Refused n) b in
     let made = subst (λ z. Made c.args.rows c.args.columns z c.in-Ok.job) (to_z-of_z c.ranges.least) c.in-Ok.ensures in
     let done = made_told (Told Grey (Bands Grey)) c.args.rows c.args.columns c.args.least c.args.drawing.now (λ p. resume_on p c.args.saved.now b) (barred 1) c.in-Ok.job made _ c.resume.ensures in
-    record { answer = c.resume-told.ensures ∙ ap (λ (t : Told Grey (Bands Grey)). shown t.answer) done; bands = ap (λ (t : Told Grey (Bands Grey)). t.state) done }
+    record { answer = c.resume_told.ensures ∙ ap (λ (t : Told Grey (Bands Grey)). shown t.answer) done; bands = ap (λ (t : Told Grey (Bands Grey)). t.state) done }
 
 pub returns-in-Err : goal.returns-in-Err
 returns-in-Err c =

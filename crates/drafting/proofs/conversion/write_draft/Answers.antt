@@ -8,4 +8,4 @@ returns c =
     let rows = c.args.size.now.rows in
     let columns = c.args.size.now.columns in
     subst (λ codes. Packs rows columns codes c.args.out.now c.pack.result c.pack.new.out)
-    (c.finish-draft.ensures ∙ ap (finished rows columns) c.put-greys.ensures) c.pack.ensures
+    (c.finish_draft.ensures ∙ ap (finished rows columns) c.put_greys.ensures) c.pack.ensures

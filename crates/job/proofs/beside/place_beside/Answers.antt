@@ -23,5 +23,5 @@ returns-in-5 c = rw c.in-5.is (omega arith)
 pub returns-in-6 : goal.returns-in-6
 returns-in-6 c = rw c.in-6.is (omega arith)
 
-pub returns-in-default : goal.returns-in-default
-returns-in-default c = let e : c.args.direction ≡ 7 = omega arith in rw e (omega arith)
+pub returns-in_default : goal.returns-in_default
+returns-in_default c = let e : c.args.direction ≡ 7 = omega arith in rw e (omega arith)

@@ -10,8 +10,8 @@ pub bounds-out-at : goal.bounds-out-at
 bounds-out-at c =
     omega (arith, kept_room c.args.codes.now c.loop-code.code-index (omega arith) c.if-code.true, c.loop-code.invariant.0)
 
-pub overflow-add-at : goal.overflow-add-at
-overflow-add-at c =
+pub overflow_add-at : goal.overflow_add-at
+overflow_add-at c =
     omega (arith, kept_room c.args.codes.now c.loop-code.code-index (omega arith) c.if-code.true, c.loop-code.invariant.0)
 
 pub loop-code-preserved : goal.loop-code-preserved

@@ -19,7 +19,7 @@ loop-code-preserved c =
     let xs = c.args.codes.now in
     let i = c.loop-code.code-index in
     let x = get_or xs i 0 in
-    sym (at_drop_more codes_refusal xs i 0 (omega arith) ∙ cond-true (leb x 1) (codes_refusal (drop (i + 1) xs)) (code_refusal x) (le-leb x 1 c.in-default.ensures))
+    sym (at_drop_more codes_refusal xs i 0 (omega arith) ∙ cond-true (leb x 1) (codes_refusal (drop (i + 1) xs)) (code_refusal x) (le-leb x 1 c.in_default.ensures))
     ∙ c.loop-code.invariant
 
 pub returns : goal.returns

@@ -9,6 +9,6 @@ pub returns-else-n-lt10 : goal.returns-else-n-lt10
 returns-else-n-lt10 t c =
     let h = simp length-append at (ap length (decimal_step c.args.n c.if-n-lt10.false (omega arith))) in
     record {
-      value = omega (arith, h, c.digit-count.ensures.value);
-      bound = omega (arith, h, c.digit-count.ensures.value, length-decimal-le 20 c.args.n (omega arith) (omega arith) (omega arith));
+      value = omega (arith, h, c.digit_count.ensures.value);
+      bound = omega (arith, h, c.digit_count.ensures.value, length-decimal-le 20 c.args.n (omega arith) (omega arith) (omega arith));
     }

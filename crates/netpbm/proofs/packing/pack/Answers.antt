@@ -11,22 +11,22 @@ returns-then-out-total c =
     let rows = c.args.size.now.rows in
     let columns = c.args.size.now.columns in
     let codes = c.args.codes.now in
-    let start = c.header-length-start.result in
-    let w = c.row-bytes.result in
-    let due = total_is rows columns codes start w c.header-length-start.ensures.value c.row-bytes.ensures in
+    let start = c.header_length-start.result in
+    let w = c.row_bytes.result in
+    let due = total_is rows columns codes start w c.header_length-start.ensures.value c.row_bytes.ensures in
     (sym (refused_short rows columns codes (length c.args.out.now) (start + rows * w) (omega arith) due (omega arith)), refl)
 
-pub returns-in-err-check-codes : goal.returns-in-err-check-codes
-returns-in-err-check-codes c =
+pub returns-in_err-check_codes : goal.returns-in_err-check_codes
+returns-in_err-check_codes c =
     let rows = c.args.size.now.rows in
     let columns = c.args.size.now.columns in
     let codes = c.args.codes.now in
-    let start = c.header-length-start.result in
-    let w = c.row-bytes.result in
-    let due = total_is rows columns codes start w c.header-length-start.ensures.value c.row-bytes.ensures in
+    let start = c.header_length-start.result in
+    let w = c.row_bytes.result in
+    let due = total_is rows columns codes start w c.header_length-start.ensures.value c.row_bytes.ensures in
     let by = refused_by_codes rows columns codes (length c.args.out.now) (start + rows * w) (omega arith) due (omega arith) in
     let p = err_from_is_err_and c.from-residual.result c.from-residual.ensures.1 in
-    rw (p.1, p.2) (c.in-err-check-codes.ensures ∙ sym by, refl)
+    rw (p.1, p.2) (c.in_err-check_codes.ensures ∙ sym by, refl)
 
 pub returns : goal.returns
 returns c =
@@ -34,17 +34,17 @@ returns c =
     let columns = c.args.size.now.columns in
     let codes = c.args.codes.now in
     let out = c.args.out.now in
-    let start = c.header-length-start.result in
-    let w = c.row-bytes.result in
+    let start = c.header_length-start.result in
+    let w = c.row_bytes.result in
     let total = start + rows * w in
-    let front = c.put-header.new.out in
-    let rest = c.put-raster.new.out in
-    let due = total_is rows columns codes start w c.header-length-start.ensures.value c.row-bytes.ensures in
+    let front = c.put_header.new.out in
+    let rest = c.put_raster.new.out in
+    let due = total_is rows columns codes start w c.header_length-start.ensures.value c.row_bytes.ensures in
     let by = refused_by_codes rows columns codes (length out) total (omega arith) due (omega arith) in
-    let begun : length front ≡ start = ap length c.put-header.ensures ∙ sym c.header-length-start.ensures.value in
-    let ended : length rest ≡ rows * w = ap length c.put-raster.ensures ∙ length-raster rows columns codes ∙ ap (λ n. rows * n) (sym c.row-bytes.ensures) in (
-      by ∙ c.in-ok-check-codes.ensures,
+    let begun : length front ≡ start = ap length c.put_header.ensures ∙ sym c.header_length-start.ensures.value in
+    let ended : length rest ≡ rows * w = ap length c.put_raster.ensures ∙ length-raster rows columns codes ∙ ap (λ n. rows * n) (sym c.row_bytes.ensures) in (
+      by ∙ c.in_ok-check_codes.ensures,
       due,
       two_parts out front rest start total (start - 0) (total - start) begun (omega arith) (omega arith) (omega arith) (omega arith)
-          ∙ ap (λ l. l ++ rest ++ drop total out) c.put-header.ensures ∙ ap (λ l. header rows columns ++ l ++ drop total out) c.put-raster.ensures,
+          ∙ ap (λ l. l ++ rest ++ drop total out) c.put_header.ensures ∙ ap (λ l. header rows columns ++ l ++ drop total out) c.put_raster.ensures,
     )

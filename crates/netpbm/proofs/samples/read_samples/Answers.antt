@@ -28,8 +28,8 @@ loop-i-preserved c =
     sym (sample_fault_is _ input _ (greatest_in input) _ (after input (3 + i)) inv.0 c.requires.greatest inv.1) ∙ got.0 in
     let xs = c.loop-i.reader.input.now in
     let at = c.loop-i.reader.position in
-    let is = tone_is xs input at i c.in-Ok.sample c.tone-of.result inv.0 inv.1 got.1 c.tone-of.ensures in
-    let more = band_more input c.loop-i.band c.args.band.now i c.tone-of.result (omega arith) is inv.3 inv.4 in
+    let is = tone_is xs input at i c.in-Ok.sample c.tone_of.result inv.0 inv.1 got.1 c.tone_of.ensures in
+    let more = band_more input c.loop-i.band c.args.band.now i c.tone_of.result (omega arith) is inv.3 inv.4 in
     (c.in-Ok.ensures.input ∙ inv.0, next_is xs input at i _ inv.0 inv.1 got.2, fault_more input i None inv.2 good, more.0, more.1)
 
 pub returns : goal.returns

@@ -3,7 +3,7 @@ use Rattle.plan.specs.TableLaws.{tabled-none}
 use Rattle.plan.proofs.apart.is_apart.Goals as goal
 
 pub loop-row-preserved : goal.loop-row-preserved
-loop-row-preserved c = below_more _ _ c.loop-row.invariant c.if-not-is-row-apart.ensures
+loop-row-preserved c = below_more _ _ c.loop-row.invariant c.if-not-is_row_apart.ensures
 
 pub returns : goal.returns
 returns c =

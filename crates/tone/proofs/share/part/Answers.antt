@@ -5,11 +5,11 @@ use Rattle.tone.specs.Grey.{part_of}
 use Rattle.tone.proofs.Parts.{wide, narrow, product_code, quotient}
 use Rattle.tone.proofs.share.part.Goals as goal
 
-pub overflow-mul-e : goal.overflow-mul-e
-overflow-mul-e c = subst⁻¹ (SFits w64) (product_code _ _ _ c.ranges.e c.ranges.total.fits c.requires.less) (wide _ _ _ c.ranges.e c.ranges.total.fits c.requires.less)
+pub overflow_mul-e : goal.overflow_mul-e
+overflow_mul-e c = subst⁻¹ (SFits w64) (product_code _ _ _ c.ranges.e c.ranges.total.fits c.requires.less) (wide _ _ _ c.ranges.e c.ranges.total.fits c.requires.less)
 
-pub overflow-cast-result : goal.overflow-cast-result
-overflow-cast-result c = subst⁻¹ (SFits w32) (quotient _ _ _ c.ranges.e c.ranges.total.fits c.requires.less c.divided.result c.divided.ensures) (narrow _ _ _ c.ranges.e c.ranges.total.fits c.requires.less)
+pub overflow_cast-result : goal.overflow_cast-result
+overflow_cast-result c = subst⁻¹ (SFits w32) (quotient _ _ _ c.ranges.e c.ranges.total.fits c.requires.less c.divided.result c.divided.ensures) (narrow _ _ _ c.ranges.e c.ranges.total.fits c.requires.less)
 
 pub returns : goal.returns
 returns c =

@@ -8,7 +8,7 @@ pub loop-d-init : goal.loop-d-init
 loop-d-init g c = ready_none (squares_of g.P.Plan.meaning c.args.self.now) (stands c.args.saved.now) c.args.place
 
 pub loop-d-preserved : goal.loop-d-preserved
-loop-d-preserved g c = ready_more (squares_of g.P.Plan.meaning c.args.self.now) (stands c.args.saved.now) c.args.place c.loop-d.d (sym c.if-not-lower-stands.ensures) c.loop-d.invariant
+loop-d-preserved g c = ready_more (squares_of g.P.Plan.meaning c.args.self.now) (stands c.args.saved.now) c.args.place c.loop-d.d (sym c.if-not-lower_stands.ensures) c.loop-d.invariant
 
-pub returns-then-not-lower-stands : goal.returns-then-not-lower-stands
-returns-then-not-lower-stands g c = sym (ready_fails (squares_of g.P.Plan.meaning c.args.self.now) (stands c.args.saved.now) c.args.place 8 c.loop-d.d c.loop-d-test.true (sym c.if-not-lower-stands.ensures))
+pub returns-then-not-lower_stands : goal.returns-then-not-lower_stands
+returns-then-not-lower_stands g c = sym (ready_fails (squares_of g.P.Plan.meaning c.args.self.now) (stands c.args.saved.now) c.args.place 8 c.loop-d.d c.loop-d-test.true (sym c.if-not-lower_stands.ensures))

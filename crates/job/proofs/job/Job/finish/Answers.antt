@@ -26,4 +26,4 @@ returns g c =
     ap (λ (s : Progress g.row.Q-Tone.Denot). told (Count s.count) s.bands) c.sweep.ensures
     ∙ (λ i. told (Count (count_is i)) (bands-is i))
     ∙ ap (λ m. told (Count (swept_below p.setting m b).count) (swept_below p.setting m b).bands) (add-one plan.top)
-    ∙ sym (cond-true (fits p b) _ _ (sym c.if-not-lengths-match.ensures))
+    ∙ sym (cond-true (fits p b) _ _ (sym c.if-not-lengths_match.ensures))

@@ -11,5 +11,5 @@ loop-row-preserved g c =
       simp length-set c.loop-row.invariant.0,
       below_more _ _
           (λ k h. let ne : k ≢ row = omega arith in rw get_or-set_other (c.loop-row.invariant.1 k h))
-          (rw get_or-set_same c.first-column.ensures),
+          (rw get_or-set_same c.first_column.ensures),
     )

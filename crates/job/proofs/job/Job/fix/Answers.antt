@@ -13,4 +13,4 @@ returns-then-row-self g c =
       | then-row-self-via-then-row-self w ↦ row_outside c.args.row size.rows (ltb c.args.column size.columns) w.if-row-self.true
       | then-row-self-via-else-row-self+then-column-self w ↦ column_outside (ltb c.args.row size.rows) c.args.column size.columns w.if-column-self.true
     ] in
-    fix_outside p c.args.row c.args.column (band c.args.codes.now c.args.amounts.now) (sym c.if-not-lengths-match.ensures) out
+    fix_outside p c.args.row c.args.column (band c.args.codes.now c.args.amounts.now) (sym c.if-not-lengths_match.ensures) out

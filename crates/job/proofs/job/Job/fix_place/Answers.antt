@@ -12,8 +12,8 @@ returns-then-place-squares g c =
     attempt_refused j c.args.place (band c.args.codes.now c.args.amounts.now) 2
     (refused_outside j.squares (standing c.args.codes.now) c.args.place (omega arith))
 
-pub fix-square-requires : goal.fix-square-requires
-fix-square-requires g c =
+pub fix_square-requires : goal.fix_square-requires
+fix_square-requires g c =
     let size = c.args.self.now.size in
     let wide : 0 < size.columns = omega arith in
     let inside : c.args.place < size.rows * size.columns = omega arith in

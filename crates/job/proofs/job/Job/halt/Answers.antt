@@ -17,9 +17,9 @@ returns-then-out-total g c =
     let codes = c.args.codes.now in
     let p = meant g.Tone.Tone.algebra g.P.Plan.meaning g.Q.Quantiser.tables j c.args.drawing.now in
     let b = band codes c.args.amounts.now in
-    let is : fits p b ≡ true = sym c.lengths-match.ensures ∙ c.if-not-lengths-match.false in
+    let is : fits p b ≡ true = sym c.lengths_match.ensures ∙ c.if-not-lengths_match.false in
     let long = length_record j.size.rows j.size.columns codes in
-    let count = c.count-fixed.ensures.value in
+    let count = c.count_fixed.ensures.value in
     write_short (fits p b) is (record_of j.size.rows j.size.columns codes) c.args.out.now (wrote (Refused 2) c.args.out.now) (omega (arith, long, count))
 
 pub returns : goal.returns
@@ -31,18 +31,18 @@ returns g c =
     let out = c.args.out.now in
     let p = meant g.Tone.Tone.algebra g.P.Plan.meaning g.Q.Quantiser.tables j c.args.drawing.now in
     let b = band codes c.args.amounts.now in
-    let is : fits p b ≡ true = sym c.lengths-match.ensures ∙ c.if-not-lengths-match.false in
+    let is : fits p b ≡ true = sym c.lengths_match.ensures ∙ c.if-not-lengths_match.false in
     let long = length_record rows columns codes in
-    let count = c.count-fixed.ensures.value in
+    let count = c.count_fixed.ensures.value in
     let start = 4 + bytes_for (length codes) in
-    let total = start + c.count-fixed.result in
-    let ds = c.put-size.ensures in
-    let bs = c.pack-row.ensures in
-    let cs = c.put-codes.ensures in
-    let lent = part_long out c.put-size.new.out 4 (start - 4) (bytes_for (length codes)) (ap length ds) (omega arith) (omega arith) in
-    let full : c.pack-row.new.out ≡ bit_map codes = bs ∙ ap (λ n. packed fixed n codes) lent in
-    let map_long : length c.pack-row.new.out ≡ bytes_for (length codes) = ap length full ∙ length-packed fixed (bytes_for (length codes)) codes in
+    let total = start + c.count_fixed.result in
+    let ds = c.put_size.ensures in
+    let bs = c.pack_row.ensures in
+    let cs = c.put_codes.ensures in
+    let lent = part_long out c.put_size.new.out 4 (start - 4) (bytes_for (length codes)) (ap length ds) (omega arith) (omega arith) in
+    let full : c.pack_row.new.out ≡ bit_map codes = bs ∙ ap (λ n. packed fixed n codes) lent in
+    let map_long : length c.pack_row.new.out ≡ bytes_for (length codes) = ap length full ∙ length-packed fixed (bytes_for (length codes)) codes in
     write_whole (fits p b) is (record_of rows columns codes) out (wrote (Refused 2) out) total _ (omega (arith, long, count)) (omega arith)
-    (three_parts out c.put-size.new.out c.pack-row.new.out c.put-codes.new.out 4 start total (4 - 0) (start - 4) (total - start)
+    (three_parts out c.put_size.new.out c.pack_row.new.out c.put_codes.new.out 4 start total (4 - 0) (start - 4) (total - start)
     (ap length ds) (omega arith) (omega (arith, map_long)) (omega (arith, map_long)) (omega (arith, ap length cs, count)) (omega (arith, ap length cs, count)) (omega arith)
     ∙ same_parts (drop total out) ds full cs)

@@ -13,14 +13,14 @@ loop-row-init g c =
     ap (all_below p) (zero-mul j.size.columns) ∙ all_below-none p
 
 pub loop-row-preserved : goal.loop-row-preserved
-loop-row-preserved g c = sym c.if-not-is-row-closed.ensures
+loop-row-preserved g c = sym c.if-not-is_row_closed.ensures
 
-pub returns-then-not-is-row-closed : goal.returns-then-not-is-row-closed
-returns-then-not-is-row-closed g c =
+pub returns-then-not-is_row_closed : goal.returns-then-not-is_row_closed
+returns-then-not-is_row_closed g c =
     let j = c.args.self.now in
     let p = may_stand (squares_of g.P.Plan.meaning j) c.args.saved.now in
     let below : c.loop-row.row + 1 ≤ j.size.rows = omega arith in
-    sym (all_below_stays p ((c.loop-row.row + 1) * j.size.columns) (j.size.rows * j.size.columns) (mul-le-mul_right j.size.columns below) (sym c.if-not-is-row-closed.ensures))
+    sym (all_below_stays p ((c.loop-row.row + 1) * j.size.columns) (j.size.rows * j.size.columns) (mul-le-mul_right j.size.columns below) (sym c.if-not-is_row_closed.ensures))
 
 pub returns : goal.returns
 returns g c =

@@ -8,7 +8,7 @@ pub loop-d-init : goal.loop-d-init
 loop-d-init g c = ready_none (squares_of g.P.Plan.meaning c.args.self.now) (standing c.args.codes.now) c.args.place
 
 pub loop-d-preserved : goal.loop-d-preserved
-loop-d-preserved g c = ready_more (squares_of g.P.Plan.meaning c.args.self.now) (standing c.args.codes.now) c.args.place c.loop-d.d (sym c.if-not-is-free.ensures) c.loop-d.invariant
+loop-d-preserved g c = ready_more (squares_of g.P.Plan.meaning c.args.self.now) (standing c.args.codes.now) c.args.place c.loop-d.d (sym c.if-not-is_free.ensures) c.loop-d.invariant
 
-pub returns-then-not-is-free : goal.returns-then-not-is-free
-returns-then-not-is-free g c = sym (ready_fails (squares_of g.P.Plan.meaning c.args.self.now) (standing c.args.codes.now) c.args.place 8 c.loop-d.d c.loop-d-test.true (sym c.if-not-is-free.ensures))
+pub returns-then-not-is_free : goal.returns-then-not-is_free
+returns-then-not-is_free g c = sym (ready_fails (squares_of g.P.Plan.meaning c.args.self.now) (standing c.args.codes.now) c.args.place 8 c.loop-d.d c.loop-d-test.true (sym c.if-not-is_free.ensures))

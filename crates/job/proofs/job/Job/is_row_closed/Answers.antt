@@ -20,15 +20,15 @@ loop-column-preserved g c =
     let k = c.args.row * j.size.columns in
     let n = k + c.loop-column.column in
     let next : k + (c.loop-column.column + 1) ≡ n + 1 = omega arith in
-    ap (all_below p) next ∙ all_below_again p n (sym c.if-not-is-square-closed.ensures) c.loop-column.invariant
+    ap (all_below p) next ∙ all_below_again p n (sym c.if-not-is_square_closed.ensures) c.loop-column.invariant
 
-pub returns-then-not-is-square-closed : goal.returns-then-not-is-square-closed
-returns-then-not-is-square-closed g c =
+pub returns-then-not-is_square_closed : goal.returns-then-not-is_square_closed
+returns-then-not-is_square_closed g c =
     let j = c.args.self.now in
     let p = may_stand (squares_of g.P.Plan.meaning j) c.args.saved.now in
     let n = c.args.row * j.size.columns + c.loop-column.column in
     let inside : n < (c.args.row + 1) * j.size.columns = omega (arith, add-mul c.args.row 1 j.size.columns, c.loop-column-test.true) in
-    sym (all_below_failed p n ((c.args.row + 1) * j.size.columns) inside (sym c.if-not-is-square-closed.ensures))
+    sym (all_below_failed p n ((c.args.row + 1) * j.size.columns) inside (sym c.if-not-is_square_closed.ensures))
 
 pub returns : goal.returns
 returns g c =

@@ -6,21 +6,21 @@ use Rattle.job.specs.Meaning.{squares_of}
 use Rattle.job.proofs.Forms.{bit_within}
 use Rattle.job.proofs.job.Job.is_square_closed.Goals as goal
 
-pub is-standing-requires : goal.is-standing-requires
-is-standing-requires g c =
+pub is_standing-requires : goal.is_standing-requires
+is_standing-requires g c =
     let size = c.args.self.now.size in
     let s = c.args.row * size.columns + c.args.column in
     bit_within c.args.saved.now s (size.rows * size.columns)
     (omega (arith, mul-add-lt c.args.row size.columns c.args.column size.rows c.requires.row c.requires.column, mul_comm size.rows size.columns)) c.requires.saved
 
-pub returns-then-not-is-standing : goal.returns-then-not-is-standing
-returns-then-not-is-standing g c =
+pub returns-then-not-is_standing : goal.returns-then-not-is_standing
+returns-then-not-is_standing g c =
     let j = c.args.self.now in
     let s = c.args.row * j.size.columns + c.args.column in
-    sym (ap (λ b. not b || ready_by (squares_of g.P.Plan.meaning j) (stands c.args.saved.now) s 8) (sym c.if-not-is-standing.ensures))
+    sym (ap (λ b. not b || ready_by (squares_of g.P.Plan.meaning j) (stands c.args.saved.now) s 8) (sym c.if-not-is_standing.ensures))
 
-pub all-lower-stand-requires : goal.all-lower-stand-requires
-all-lower-stand-requires g c =
+pub all_lower_stand-requires : goal.all_lower_stand-requires
+all_lower_stand-requires g c =
     let size = c.args.self.now.size in
     record {
       inside = omega (arith, mul-add-lt c.args.row size.columns c.args.column size.rows c.requires.row c.requires.column, mul_comm size.rows size.columns);
@@ -32,5 +32,5 @@ pub returns : goal.returns
 returns g c =
     let j = c.args.self.now in
     let s = c.args.row * j.size.columns + c.args.column in
-    c.all-lower-stand.ensures
-    ∙ sym (ap (λ b. not b || ready_by (squares_of g.P.Plan.meaning j) (stands c.args.saved.now) s 8) (sym c.if-not-is-standing.ensures))
+    c.all_lower_stand.ensures
+    ∙ sym (ap (λ b. not b || ready_by (squares_of g.P.Plan.meaning j) (stands c.args.saved.now) s 8) (sym c.if-not-is_standing.ensures))

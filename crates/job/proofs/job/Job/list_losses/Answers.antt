@@ -21,4 +21,4 @@ loop-row-preserved g c =
     let squares = squares_of g.P.Plan.meaning j in
     let le : c.loop-row.row * j.size.columns ≤ (c.loop-row.row + 1) * j.size.columns = omega (arith, add-mul c.loop-row.row 1 j.size.columns) in
     listing_chain a squares c.args.codes.now c.args.amounts.now (c.loop-row.row * j.size.columns) ((c.loop-row.row + 1) * j.size.columns) c.loop-row.count _
-    c.args.places.now c.loop-row.places _ c.args.errors.now c.loop-row.errors _ le c.loop-row.invariant c.list-row-losses-count.ensures
+    c.args.places.now c.loop-row.places _ c.args.errors.now c.loop-row.errors _ le c.loop-row.invariant c.list_row_losses-count.ensures

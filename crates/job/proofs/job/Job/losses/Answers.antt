@@ -16,9 +16,9 @@ returns g c =
     let amounts = c.args.amounts.now in
     let p = meant a g.P.Plan.meaning g.Q.Quantiser.tables j c.args.drawing.now in
     let b = band codes amounts in
-    let is : fits p b ≡ true = sym c.lengths-match.ensures ∙ c.if-not-lengths-match.false in
+    let is : fits p b ≡ true = sym c.lengths_match.ensures ∙ c.if-not-lengths_match.false in
     let ps = lost_below (squares_of g.P.Plan.meaning j) codes (j.size.rows * j.size.columns) in
-    let l = c.list-losses.ensures in
-    let counted = c.count-losses-count.ensures in
+    let l = c.list_losses.ensures in
+    let counted = c.count_losses-count.ensures in
     list_whole (fits p b) is ps (map (tone_at a amounts) ps) c.args.places.now c.args.errors.now (listed (Refused 2) c.args.places.now c.args.errors.now)
-    c.list-losses.result c.list-losses.new.places c.list-losses.new.errors l.many (omega arith) (omega arith) l.places l.places-behind l.errors l.errors_behind
+    c.list_losses.result c.list_losses.new.places c.list_losses.new.errors l.many (omega arith) (omega arith) l.places l.places-behind l.errors l.errors_behind

@@ -5,8 +5,8 @@ use Rattle.job.proofs.Around.{lower_some, lower_not, lower-inside, lower_reached
 use Rattle.job.proofs.Forms.{bit_within}
 use Rattle.job.proofs.job.Job.lower_stands.Goals as goal
 
-pub place-beside-requires : goal.place-beside-requires
-place-beside-requires g c =
+pub place_beside-requires : goal.place_beside-requires
+place_beside-requires g c =
     let j = c.args.self.now in
     record {
       place = omega (arith, c.requires.inside, j.size.small);
@@ -15,19 +15,19 @@ place-beside-requires g c =
       reached = lower_reached j.size.rows j.size.columns (g.P.Plan.meaning j.plan) (g.met.P.Plan.lawful j.plan) c.args.place c.requires.inside c.args.pattern.now.kinds c.requires.pattern.kinds c.args.direction c.requires.direction (sym c.in-Lower.ensures);
     }
 
-pub is-standing-requires : goal.is-standing-requires
-is-standing-requires g c =
+pub is_standing-requires : goal.is_standing-requires
+is_standing-requires g c =
     let j = c.args.self.now in
     let within = lower-inside j.size.rows j.size.columns (g.P.Plan.meaning j.plan) (g.met.P.Plan.lawful j.plan) c.args.place c.requires.inside c.args.pattern.now.kinds c.requires.pattern.kinds c.args.direction c.requires.direction (sym c.in-Lower.ensures) in
-    bit_within c.args.saved.now c.place-beside.result (j.size.rows * j.size.columns) (omega (arith, c.place-beside.ensures, within)) c.requires.saved
+    bit_within c.args.saved.now c.place_beside.result (j.size.rows * j.size.columns) (omega (arith, c.place_beside.ensures, within)) c.requires.saved
 
 pub returns-in-Lower : goal.returns-in-Lower
 returns-in-Lower g c =
     let j = c.args.self.now in
     let lower-is = lower_some j.size.rows j.size.columns (g.P.Plan.meaning j.plan) (g.met.P.Plan.lawful j.plan) c.args.place c.requires.inside c.args.pattern.now.kinds c.requires.pattern.kinds c.args.direction c.requires.direction (sym c.in-Lower.ensures) in
-    c.is-standing.ensures ∙ ap (stands c.args.saved.now) c.place-beside.ensures ∙ sym (ap (okay (stands c.args.saved.now)) lower-is)
+    c.is_standing.ensures ∙ ap (stands c.args.saved.now) c.place_beside.ensures ∙ sym (ap (okay (stands c.args.saved.now)) lower-is)
 
-pub returns-in-default : goal.returns-in-default
-returns-in-default g c =
+pub returns-in_default : goal.returns-in_default
+returns-in_default g c =
     let j = c.args.self.now in
-    sym (ap (okay (stands c.args.saved.now)) (lower_not j.size.rows j.size.columns (g.P.Plan.meaning j.plan) (g.met.P.Plan.lawful j.plan) c.args.place c.requires.inside c.args.pattern.now.kinds c.requires.pattern.kinds c.args.direction c.requires.direction (λ e. c.in-default.not-Lower (c.kind.ensures ∙ e))))
+    sym (ap (okay (stands c.args.saved.now)) (lower_not j.size.rows j.size.columns (g.P.Plan.meaning j.plan) (g.met.P.Plan.lawful j.plan) c.args.place c.requires.inside c.args.pattern.now.kinds c.requires.pattern.kinds c.args.direction c.requires.direction (λ e. c.in_default.not-Lower (c.kind.ensures ∙ e))))

@@ -20,8 +20,8 @@ loop-row-init g c =
       below_none j c.args.rank b ∙ ap (λ n. passed_below j c.args.rank n b) (sym (zero-mul job.size.columns)),
     )
 
-pub pass-row-count-requires : goal.pass-row-count-requires
-pass-row-count-requires g c =
+pub pass_row-count-requires : goal.pass_row-count-requires
+pass_row-count-requires g c =
     let job = c.args.self.now in
     let plan = g.P.Plan.meaning job.plan in
     let law = g.met.P.Plan.lawful job.plan in
@@ -34,7 +34,7 @@ pass-row-count-requires g c =
     let j = setting_by g.Tone.Tone.algebra g.P.Plan.meaning g.Q.Quantiser.tables job in
     record {
       row = c.loop-row-test.true;
-      first = first_same plan law job.size.columns c.args.rank row phase _ (mod-eq_of_lt short ∙ inv.1) (c.first-columns-firsts.ensures.each phase short (omega (arith, inv.0, c.loop-row-test.true)));
+      first = first_same plan law job.size.columns c.args.rank row phase _ (mod-eq_of_lt short ∙ inv.1) (c.first_columns-firsts.ensures.each phase short (omega (arith, inv.0, c.loop-row-test.true)));
       lower = lower-below j c.args.rank (row * job.size.columns) c.loop-row.count (band c.args.codes.now c.args.amounts.now) (band c.loop-row.codes c.loop-row.amounts) inv.3 c.requires.lower;
       amounts = omega (arith, c.requires.amounts);
       codes = omega (arith, c.requires.codes);
@@ -49,9 +49,9 @@ loop-row-preserved g c =
     let k = c.loop-row.row in
     let inv = c.loop-row.invariant in
     let next : (k + 1) * columns ≡ k * columns + columns = add-mul k 1 columns ∙ ap (λ n. k * columns + n) (one-mul columns) in (
-      omega (arith, inv.0, c.next-phase-phase.ensures.bound),
-      next_modulo plan.row_period k c.loop-row.phase c.next-phase-phase.result inv.1 (c.next-phase-phase.ensures.value ∙ ap (λ q. (c.loop-row.phase + 1) % q) c.row-period-period.ensures),
-      omega (arith, next, inv.2, c.pass-row-count.ensures.few),
-      row_more j c.args.rank k columns c.loop-row.count c.pass-row-count.result (band c.args.codes.now c.args.amounts.now) (band c.loop-row.codes c.loop-row.amounts)
-          (band c.pass-row-count.new.codes c.pass-row-count.new.amounts) inv.3 c.pass-row-count.ensures.after,
+      omega (arith, inv.0, c.next_phase-phase.ensures.bound),
+      next_modulo plan.row_period k c.loop-row.phase c.next_phase-phase.result inv.1 (c.next_phase-phase.ensures.value ∙ ap (λ q. (c.loop-row.phase + 1) % q) c.row_period-period.ensures),
+      omega (arith, next, inv.2, c.pass_row-count.ensures.few),
+      row_more j c.args.rank k columns c.loop-row.count c.pass_row-count.result (band c.args.codes.now c.args.amounts.now) (band c.loop-row.codes c.loop-row.amounts)
+          (band c.pass_row-count.new.codes c.pass_row-count.new.amounts) inv.3 c.pass_row-count.ensures.after,
     )

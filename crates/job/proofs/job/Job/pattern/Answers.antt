@@ -31,4 +31,4 @@ returns g c =
     (one 0 _ c.kind.ensures) (one 1 _ c.kind-2.ensures) (one 2 _ c.kind-3.ensures) (one 3 _ c.kind-4.ensures)
     (one 4 _ c.kind-5.ensures) (one 5 _ c.kind-6.ensures) (one 6 _ c.kind-7.ensures) (one 7 _ c.kind-8.ensures) in
     let told = pattern_told rows columns plan law s inside ks kinds in
-    record { kinds = kinds; weights = c.weights-of-weights.ensures ∙ told.weights; last = c.last-of-last.ensures ∙ told.last }
+    record { kinds = kinds; weights = c.weights_of-weights.ensures ∙ told.weights; last = c.last_of-last.ensures ∙ told.last }

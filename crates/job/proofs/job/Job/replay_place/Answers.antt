@@ -10,8 +10,8 @@ returns g c =
     let amounts = c.args.amounts.now in
     let s = c.args.place in
     let inside : s < length codes = omega arith in
-    let after = band c.take-one.new.codes c.take-one.new.amounts in
+    let after = band c.take_one.new.codes c.take_one.new.amounts in
     record {
-      stay = replay_stays j s codes amounts inside c.take-one.result after c.take-one.ensures.after;
-      worked = replay-taken j s codes amounts inside c.take-one.result after c.take-one.ensures.after;
+      stay = replay_stays j s codes amounts inside c.take_one.result after c.take_one.ensures.after;
+      worked = replay-taken j s codes amounts inside c.take_one.result after c.take_one.ensures.after;
     }

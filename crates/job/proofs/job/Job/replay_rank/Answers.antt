@@ -17,20 +17,20 @@ loop-row-preserved g c =
     let columns = c.args.self.now.size.columns in
     let row = c.loop-row.row in
     let inv = c.loop-row.invariant in
-    let did = c.if-not-replay-row.ensures in (
+    let did = c.if-not-replay_row.ensures in (
       did.stay ∙ inv.0,
-      subst (λ cs. RowWorked j cs c.args.rank (row * columns) ((row + 1) * columns) c.loop-row.amounts (Some c.replay-row.new.amounts)) inv.0 did.worked (Some c.args.amounts.now) (sym inv.1),
+      subst (λ cs. RowWorked j cs c.args.rank (row * columns) ((row + 1) * columns) c.loop-row.amounts (Some c.replay_row.new.amounts)) inv.0 did.worked (Some c.args.amounts.now) (sym inv.1),
     )
 
-pub returns-then-not-replay-row : goal.returns-then-not-replay-row
-returns-then-not-replay-row g c =
+pub returns-then-not-replay_row : goal.returns-then-not-replay_row
+returns-then-not-replay_row g c =
     let j = setting_by g.Tone.Tone.algebra g.P.Plan.meaning g.Q.Quantiser.tables c.args.self.now in
     let size = c.args.self.now.size in
     let start = Some c.args.amounts.now in
     let below : c.loop-row.row + 1 ≤ size.rows = omega arith in
     let row = c.loop-row.row in
     let inv = c.loop-row.invariant in
-    let did = c.if-not-replay-row.ensures in
+    let did = c.if-not-replay_row.ensures in
     record {
       stay = did.stay ∙ inv.0;
       worked = sym (replay_sweep_failed j c.args.codes.now c.args.rank start ((row + 1) * size.columns) (size.rows * size.columns)

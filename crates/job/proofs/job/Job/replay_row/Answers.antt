@@ -15,20 +15,20 @@ loop-column-preserved g c =
     let j = setting_by g.Tone.Tone.algebra g.P.Plan.meaning g.Q.Quantiser.tables c.args.self.now in
     let k = c.args.row * c.args.self.now.size.columns in
     let same = c.loop-column.invariant.0 in
-    let did = c.if-not-replay-square.ensures in (
+    let did = c.if-not-replay_square.ensures in (
       did.stay ∙ same,
-      row_again j c.args.codes.now c.args.rank k (k + c.loop-column.column) (k + (c.loop-column.column + 1)) c.args.amounts.now c.loop-column.amounts (Some c.replay-square.new.amounts)
+      row_again j c.args.codes.now c.args.rank k (k + c.loop-column.column) (k + (c.loop-column.column + 1)) c.args.amounts.now c.loop-column.amounts (Some c.replay_square.new.amounts)
           (omega arith) c.loop-column.invariant.1 (did.worked ∙ ap (λ cs. replay_visit j cs c.args.rank (k + c.loop-column.column) (Some c.loop-column.amounts)) same),
     )
 
-pub returns-then-not-replay-square : goal.returns-then-not-replay-square
-returns-then-not-replay-square g c =
+pub returns-then-not-replay_square : goal.returns-then-not-replay_square
+returns-then-not-replay_square g c =
     let j = setting_by g.Tone.Tone.algebra g.P.Plan.meaning g.Q.Quantiser.tables c.args.self.now in
     let columns = c.args.self.now.size.columns in
     let k = c.args.row * columns in
     let n = k + (c.loop-column.column + 1) in
     let same = c.loop-column.invariant.0 in
-    let did = c.if-not-replay-square.ensures in
+    let did = c.if-not-replay_square.ensures in
     record {
       stay = did.stay ∙ same;
       worked = row_failed j c.args.codes.now c.args.rank k n ((c.args.row + 1) * columns) c.args.amounts.now (omega (arith, add-mul c.args.row 1 columns, c.loop-column-test.true))

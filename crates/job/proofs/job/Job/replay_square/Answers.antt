@@ -33,8 +33,8 @@ returns-then-rank g c =
           (λ e. c.if-rank.true (c.rank.ensures ∙ sym ((lays_out j.size.rows j.size.columns (g.P.Plan.meaning j.plan) (g.met.P.Plan.lawful j.plan)).rank c.args.row c.args.column c.requires.column) ∙ e));
     }
 
-pub replay-place-requires : goal.replay-place-requires
-replay-place-requires g c =
+pub replay_place-requires : goal.replay_place-requires
+replay_place-requires g c =
     let size = c.args.self.now.size in
     record {
       inside = omega (arith, mul-add-lt c.args.row size.columns c.args.column size.rows c.requires.row c.requires.column, mul_comm size.rows size.columns);
@@ -50,9 +50,9 @@ returns g c =
     let s = c.args.row * j.size.columns + c.args.column in
     let inside : s < length codes = omega (arith, mul-add-lt c.args.row j.size.columns c.args.column j.size.rows c.requires.row c.requires.column, mul_comm j.size.rows j.size.columns) in
     record {
-      stay = c.replay-place.ensures.stay;
+      stay = c.replay_place.ensures.stay;
       worked = visit_turn (setting_by g.Tone.Tone.algebra g.P.Plan.meaning g.Q.Quantiser.tables j) codes c.args.rank s c.args.amounts.now _
           ((lays_out j.size.rows j.size.columns (g.P.Plan.meaning j.plan) (g.met.P.Plan.lawful j.plan)).rank c.args.row c.args.column c.requires.column ∙ sym c.rank.ensures ∙ c.if-rank.false)
           (standing-fixed codes s inside c.if-codes-place.false)
-          c.replay-place.ensures.worked;
+          c.replay_place.ensures.worked;
     }

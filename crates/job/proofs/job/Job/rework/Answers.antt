@@ -7,18 +7,18 @@ use Rattle.job.specs.Meaning.{setting_by}
 use Rattle.job.proofs.Resuming.{reworked_not, reworked_by}
 use Rattle.job.proofs.job.Job.rework.Goals as goal
 
-pub write-codes-requires : goal.write-codes-requires
-write-codes-requires g c =
+pub write_codes-requires : goal.write_codes-requires
+write_codes-requires g c =
     record {
       bound = omega arith;
       due = c.requires.due ∙ ap (λ n. 4 + bytes_for n + stand_below c.args.saved.now n) (sym c.requires.codes);
     }
 
-pub returns-then-not-write-codes : goal.returns-then-not-write-codes
-returns-then-not-write-codes g c =
+pub returns-then-not-write_codes : goal.returns-then-not-write_codes
+returns-then-not-write_codes g c =
     let j = c.args.self.now in
-    reworked_not (setting_by g.Tone.Tone.algebra g.P.Plan.meaning g.Q.Quantiser.tables j) (g.P.Plan.meaning j.plan).top c.args.drawing.now c.args.saved.now c.write-codes.new.codes c.copy-from-slice.new.self
-    (length c.args.codes.now) c.requires.codes (λ each. false≢true (c.if-not-write-codes.ensures.each.1 each))
+    reworked_not (setting_by g.Tone.Tone.algebra g.P.Plan.meaning g.Q.Quantiser.tables j) (g.P.Plan.meaning j.plan).top c.args.drawing.now c.args.saved.now c.write_codes.new.codes c.copy_from_slice.new.self
+    (length c.args.codes.now) c.requires.codes (λ each. false≢true (c.if-not-write_codes.ensures.each.1 each))
 
 pub replay-requires : goal.replay-requires
 replay-requires g c = record { amounts = omega arith; codes = omega arith }
@@ -26,11 +26,11 @@ replay-requires g c = record { amounts = omega arith; codes = omega arith }
 pub returns : goal.returns
 returns g c =
     let j = c.args.self.now in
-    let write = c.if-not-write-codes.ensures in
+    let write = c.if-not-write_codes.ensures in
     let s = setting_by g.Tone.Tone.algebra g.P.Plan.meaning g.Q.Quantiser.tables j in
     let top = (g.P.Plan.meaning j.plan).top in
     let stay = c.replay.ensures.stay in
-    let copied = c.copy-from-slice.new.self in
+    let copied = c.copy_from_slice.new.self in
     reworked_by s top c.args.drawing.now c.args.saved.now c.replay.new.codes c.replay.new.amounts
-    (length c.args.codes.now) c.requires.codes c.replay.result copied (write.each.0 refl) (stay ∙ write.written refl) c.copy-from-slice.ensures.after
+    (length c.args.codes.now) c.requires.codes c.replay.result copied (write.each.0 refl) (stay ∙ write.written refl) c.copy_from_slice.ensures.after
     (c.replay.ensures.worked ∙ ap (λ cs. replay s cs (Some copied) (suc top)) (sym stay))

@@ -15,14 +15,14 @@ returns-then-codes-place g c =
     attempt_refused j s (band codes c.args.amounts.now) 3
     (refused_fixed j.squares (standing codes) s c.requires.inside (standing-fixed codes s inside c.if-codes-place.true))
 
-pub returns-then-not-is-ready : goal.returns-then-not-is-ready
-returns-then-not-is-ready g c =
+pub returns-then-not-is_ready : goal.returns-then-not-is_ready
+returns-then-not-is_ready g c =
     let j = setting_by g.Tone.Tone.algebra g.P.Plan.meaning g.Q.Quantiser.tables c.args.self.now in
     let codes = c.args.codes.now in
     let s = c.args.place in
     let inside : s < length codes = omega arith in
     attempt_refused j s (band codes c.args.amounts.now) 4
-    (refused_waiting j.squares (standing codes) s c.requires.inside (standing_open codes s inside c.if-codes-place.false) (sym c.if-not-is-ready.ensures))
+    (refused_waiting j.squares (standing codes) s c.requires.inside (standing_open codes s inside c.if-codes-place.false) (sym c.if-not-is_ready.ensures))
 
 pub returns : goal.returns
 returns g c =
@@ -31,5 +31,5 @@ returns g c =
     let s = c.args.place in
     let inside : s < length codes = omega arith in
     let is_open = standing_open codes s inside c.if-codes-place.false in
-    attempt-taken j s (band codes c.args.amounts.now) c.take-one.result _ (band c.take-one.new.codes c.take-one.new.amounts) inside is_open
-    (not_refused j.squares (standing codes) s c.requires.inside is_open (sym c.if-not-is-ready.ensures)) c.take-one.ensures.after refl
+    attempt-taken j s (band codes c.args.amounts.now) c.take_one.result _ (band c.take_one.new.codes c.take_one.new.amounts) inside is_open
+    (not_refused j.squares (standing codes) s c.requires.inside is_open (sym c.if-not-is_ready.ensures)) c.take_one.ensures.after refl

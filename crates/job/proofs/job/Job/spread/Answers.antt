@@ -9,7 +9,7 @@ use Rattle.job.specs.Patterns.{beside}
 use Rattle.job.proofs.Parting.{spread_none, Handed, worked_share, hand_share, hand_last, hand_other}
 use Rattle.job.proofs.Around.{higher_some, higher_not, higher-inside, higher_reached}
 use Rattle.job.proofs.job.Job.spread.Goals as goal
-use Rattle.job.proofs.job.Job.spread.Goals.{in-Higher+else-d-pattern, in-default}
+use Rattle.job.proofs.job.Job.spread.Goals.{in-Higher+else-d-pattern, in_default}
 
 pub loop-d-init : goal.loop-d-init
 loop-d-init g c =
@@ -19,8 +19,8 @@ loop-d-init g c =
       sym (spread_none tone squares c.args.place (sends tone squares c.args.place c.args.error) c.args.amounts.now),
     )
 
-pub place-beside-at-requires : goal.place-beside-at-requires
-place-beside-at-requires g c =
+pub place_beside-at-requires : goal.place_beside-at-requires
+place_beside-at-requires g c =
     let j = c.args.self.now in
     record {
       place = omega (arith, c.requires.inside, j.size.small);
@@ -32,12 +32,12 @@ place-beside-at-requires g c =
 pub add-requires : goal.add-requires
 add-requires g c =
     let j = c.args.self.now in
-    omega (arith, c.place-beside-at.ensures, higher-inside j.size.rows j.size.columns (g.P.Plan.meaning j.plan) (g.met.P.Plan.lawful j.plan) c.args.place c.requires.inside c.args.pattern.now.kinds c.requires.pattern.kinds c.loop-d.d c.loop-d-test.true (sym c.in-Higher.ensures), c.loop-d.auto.amounts)
+    omega (arith, c.place_beside-at.ensures, higher-inside j.size.rows j.size.columns (g.P.Plan.meaning j.plan) (g.met.P.Plan.lawful j.plan) c.args.place c.requires.inside c.args.pattern.now.kinds c.requires.pattern.kinds c.loop-d.d c.loop-d-test.true (sym c.in-Higher.ensures), c.loop-d.auto.amounts)
 
 pub add-requires-in-Higher : goal.add-requires-in-Higher
 add-requires-in-Higher g c =
     let j = c.args.self.now in
-    omega (arith, c.place-beside-at.ensures, higher-inside j.size.rows j.size.columns (g.P.Plan.meaning j.plan) (g.met.P.Plan.lawful j.plan) c.args.place c.requires.inside c.args.pattern.now.kinds c.requires.pattern.kinds c.loop-d.d c.loop-d-test.true (sym c.in-Higher.ensures), c.loop-d.auto.amounts)
+    omega (arith, c.place_beside-at.ensures, higher-inside j.size.rows j.size.columns (g.P.Plan.meaning j.plan) (g.met.P.Plan.lawful j.plan) c.args.place c.requires.inside c.args.pattern.now.kinds c.requires.pattern.kinds c.loop-d.d c.loop-d-test.true (sym c.in-Higher.ensures), c.loop-d.auto.amounts)
 
 pub returns-then-d-pattern : goal.returns-then-d-pattern
 returns-then-d-pattern g c =
@@ -53,7 +53,7 @@ returns-then-d-pattern g c =
     (c.if-d-pattern.true ∙ c.requires.pattern.last)
     (λ h. c.loop-d.invariant.0 (subst (λ l. d ≤ l) (sym c.requires.pattern.last) h), c.loop-d.invariant.1)
     c.difference.ensures
-    (c.add.ensures ∙ ap (λ t. set c.loop-d.amounts t (tone.sum (get_or c.loop-d.amounts t tone.zero) c.difference.result)) c.place-beside-at.ensures)
+    (c.add.ensures ∙ ap (λ t. set c.loop-d.amounts t (tone.sum (get_or c.loop-d.amounts t tone.zero) c.difference.result)) c.place_beside-at.ensures)
 
 pub loop-d-preserved : goal.loop-d-preserved
 loop-d-preserved g c =
@@ -77,17 +77,17 @@ loop-d-preserved g c =
       | in-Higher+else-d-pattern w ↦
           let side-is = c.share-side.ensures ∙ ap (tone.share e 2) c.requires.pattern.weights in
           let corner-is = c.share-corner.ensures ∙ ap (tone.share e 1) c.requires.pattern.weights in
-          let part-is : w.share-for-part.result ≡ worked_share tone laws squares s e xs d
-          = w.share-for-part.ensures ∙ (λ i. cond (eqb (d % 2) 0) (side-is i) (corner-is i)) in
+          let part-is : w.share_for-part.result ≡ worked_share tone laws squares s e xs d
+          = w.share_for-part.ensures ∙ (λ i. cond (eqb (d % 2) 0) (side-is i) (corner-is i)) in
           back c.match-kind.given c.match-kind.amounts
-          (hand_share tone laws squares s e xs d (beside j.size.columns s d) c.loop-d.given w.share-for-part.result c.match-kind.given c.loop-d.amounts c.match-kind.amounts c.loop-d-test.true
+          (hand_share tone laws squares s e xs d (beside j.size.columns s d) c.loop-d.given w.share_for-part.result c.match-kind.given c.loop-d.amounts c.match-kind.amounts c.loop-d-test.true
           (higher_some j.size.rows j.size.columns plan law s c.requires.inside ks c.requires.pattern.kinds d c.loop-d-test.true (sym w.in-Higher.ensures))
           (λ q. w.if-d-pattern.false (q ∙ sym c.requires.pattern.last))
           inv part-is (w.given-is ∙ w.sum-given.ensures)
-          (w.amounts-is ∙ w.add-in-Higher.ensures ∙ ap (λ t. set c.loop-d.amounts t (tone.sum (get_or c.loop-d.amounts t tone.zero) w.share-for-part.result)) w.place-beside-at.ensures))
-      | in-default w ↦
+          (w.amounts-is ∙ w.add-in-Higher.ensures ∙ ap (λ t. set c.loop-d.amounts t (tone.sum (get_or c.loop-d.amounts t tone.zero) w.share_for-part.result)) w.place_beside-at.ensures))
+      | in_default w ↦
           back c.match-kind.given c.match-kind.amounts
           (hand_other tone laws squares s e xs d c.match-kind.given c.match-kind.amounts
-          (higher_not j.size.rows j.size.columns plan law s c.requires.inside ks c.requires.pattern.kinds d c.loop-d-test.true (λ k. w.in-default.not-Higher (c.kind.ensures ∙ k)))
+          (higher_not j.size.rows j.size.columns plan law s c.requires.inside ks c.requires.pattern.kinds d c.loop-d-test.true (λ k. w.in_default.not-Higher (c.kind.ensures ∙ k)))
           (λ h. w.given-is ∙ inv.0 h, w.amounts-is ∙ inv.1))
     ]

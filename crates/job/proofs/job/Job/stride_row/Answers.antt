@@ -26,18 +26,18 @@ loop-column-init g c =
 pub alike-squares-requires : goal.alike-squares-requires
 alike-squares-requires g c =
     let least = (g.met.P.Plan.lawful c.args.self.now.plan).column_period.least in
-    record { column = c.loop-column-test.true; period = omega (arith, c.column-period-period.ensures, least) }
+    record { column = c.loop-column-test.true; period = omega (arith, c.column_period-period.ensures, least) }
 
-pub take-all-count-requires : goal.take-all-count-requires
-take-all-count-requires g c =
+pub take_all-count-requires : goal.take_all-count-requires
+take_all-count-requires g c =
     let job = c.args.self.now in
     let rows = job.size.rows in
     let columns = job.size.columns in
     let plan = g.P.Plan.meaning job.plan in
     let law = g.met.P.Plan.lawful job.plan in
     let squares = squares_of g.P.Plan.meaning job in
-    let p = c.column-period-period.result in
-    let period = c.column-period-period.ensures in
+    let p = c.column_period-period.result in
+    let period = c.column_period-period.ensures in
     let column = c.loop-column.column in
     let alike = c.alike-squares.ensures in
     let a = c.args.row * columns in
@@ -61,14 +61,14 @@ take-all-count-requires g c =
           ]);
     }
 
-pub overflow-add-count : goal.overflow-add-count
-overflow-add-count g c = omega (arith, c.loop-column.invariant.2, c.take-all-count.ensures.few, c.alike-squares.ensures.few, c.args.self.now.size.narrow)
+pub overflow_add-count : goal.overflow_add-count
+overflow_add-count g c = omega (arith, c.loop-column.invariant.2, c.take_all-count.ensures.few, c.alike-squares.ensures.few, c.args.self.now.size.narrow)
 
 pub loop-column-smaller : goal.loop-column-smaller
 loop-column-smaller g c =
     let least = (g.met.P.Plan.lawful c.args.self.now.plan).column_period.least in
-    let some : 1 ≤ c.column-period-period.result = omega (arith, c.column-period-period.ensures, least) in
-    let on = alike_on c.args.self.now.size.columns c.loop-column.column c.column-period-period.result some c.alike-squares.result c.alike-squares.ensures in
+    let some : 1 ≤ c.column_period-period.result = omega (arith, c.column_period-period.ensures, least) in
+    let on = alike_on c.args.self.now.size.columns c.loop-column.column c.column_period-period.result some c.alike-squares.result c.alike-squares.ensures in
     omega (arith, c.loop-column-test.true, on, c.alike-squares.ensures.some)
 
 pub loop-column-preserved : goal.loop-column-preserved
@@ -85,18 +85,18 @@ loop-column-preserved g c =
     let inv = c.loop-column.invariant in
     let column = c.loop-column.column in
     let n = c.alike-squares.result in
-    let p = c.column-period-period.result in
-    let period = c.column-period-period.ensures in
+    let p = c.column_period-period.result in
+    let period = c.column_period-period.ensures in
     let least = law.column_period.least in
     let some : 1 ≤ p = omega (arith, period, least) in
     let alike = c.alike-squares.ensures in
     let a = c.args.row * columns in
-    let few = c.take-all-count.ensures.few in
+    let few = c.take_all-count.ensures.few in
     let start = band c.args.codes.now c.args.amounts.now in
     let before = band c.loop-column.codes c.loop-column.amounts in
-    let after = band c.take-all-count.new.codes c.take-all-count.new.amounts in
-    let did : progress c.take-all-count.result after ≡ taken_from j (a + column) q n before
-    = c.take-all-count.ensures.after ∙ ap (λ m. taken_from j (a + column) m n before) period in
+    let after = band c.take_all-count.new.codes c.take_all-count.new.amounts in
+    let did : progress c.take_all-count.result after ≡ taken_from j (a + column) q n before
+    = c.take_all-count.ensures.after ∙ ap (λ m. taken_from j (a + column) m n before) period in
     let run = stride_run tone rows columns plan law (g.Q.Quantiser.tables job.quantiser) zeros c.args.rank c.args.row start c.args.first c.requires.lone
     column n c.loop-column.count before c.requires.lower c.requires.row inv.0
     (λ k l. subst (λ m. column + k * m < columns) period (alike.within k l)) inv.4 in

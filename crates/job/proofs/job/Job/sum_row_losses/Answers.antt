@@ -5,15 +5,15 @@ use Rattle.job.specs.Meaning.{squares_of}
 use Rattle.job.specs.Shown.{loss_at}
 use Rattle.job.proofs.Terms.{term_added, term_skipped, terms_all, loss_lost, loss_kept}
 use Rattle.job.proofs.job.Job.sum_row_losses.Goals as goal
-use Rattle.job.proofs.job.Job.sum_row_losses.Goals.{then-is-lost, else-is-lost}
+use Rattle.job.proofs.job.Job.sum_row_losses.Goals.{then-is_lost, else-is_lost}
 
-pub bounds-codes-start : goal.bounds-codes-start
-bounds-codes-start g c =
+pub bounds-codes_start : goal.bounds-codes_start
+bounds-codes_start g c =
     let inside = mul-add-lt c.args.row c.args.self.now.size.columns c.loop-column.column c.args.self.now.size.rows (omega arith) (omega arith) in
     omega arith
 
-pub offset-bounds-amounts-start : goal.offset-bounds-amounts-start
-offset-bounds-amounts-start g c =
+pub offset_bounds-amounts-start : goal.offset_bounds-amounts-start
+offset_bounds-amounts-start g c =
     let inside = mul-add-lt c.args.row c.args.self.now.size.columns c.loop-column.column c.args.self.now.size.rows (omega arith) (omega arith) in
     search rules
 
@@ -42,15 +42,15 @@ loop-column-preserved g c =
     let inside : n < length codes = omega arith in
     let within : n < length amounts = omega arith in
     let step : n + 1 ≡ next = omega arith in
-    elim c.if-is-lost.branch [
-      | then-is-lost w ↦ terms_all a f (n + 1) c.if-is-lost.sum
-          (term_added a f n c.loop-column.sum c.loop-column.invariant w.index-amounts-start.result c.if-is-lost.sum
+    elim c.if-is_lost.branch [
+      | then-is_lost w ↦ terms_all a f (n + 1) c.if-is_lost.sum
+          (term_added a f n c.loop-column.sum c.loop-column.invariant w.index-amounts-start.result c.if-is_lost.sum
           (get_or_read amounts n w.index-amounts-start.result within w.index-amounts-start.is a.zero
-          ∙ loss_lost a codes n inside squares c.is-lost.result c.is-lost.ensures amounts w.if-is-lost.true)
+          ∙ loss_lost a codes n inside squares c.is_lost.result c.is_lost.ensures amounts w.if-is_lost.true)
           (w.sum-is ∙ w.sum-sum.ensures)) next step
-      | else-is-lost w ↦ w.sum-is ∙ terms_all a f (n + 1) c.loop-column.sum
+      | else-is_lost w ↦ w.sum-is ∙ terms_all a f (n + 1) c.loop-column.sum
           (term_skipped a f n c.loop-column.sum c.loop-column.invariant g.met.Tone.Tone.lawful
-          (loss_kept a codes n inside squares c.is-lost.result c.is-lost.ensures amounts w.if-is-lost.false)) next step
+          (loss_kept a codes n inside squares c.is_lost.result c.is_lost.ensures amounts w.if-is_lost.false)) next step
     ]
 
 pub returns : goal.returns

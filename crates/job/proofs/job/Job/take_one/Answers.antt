@@ -4,8 +4,8 @@ use Rattle.job.specs.Patterns.{PatternOf}
 use Rattle.job.proofs.Taking.{taken_one}
 use Rattle.job.proofs.job.Job.take_one.Goals as goal
 
-pub take-all-requires : goal.take-all-requires
-take-all-requires g c =
+pub take_all-requires : goal.take_all-requires
+take_all-requires g c =
     let pattern = c.args.pattern.now in
     let first : (k : ℕ) → k < 1 → c.args.place + k * 1 ≡ c.args.place = λ k l. omega arith in
     record {
@@ -20,6 +20,6 @@ pub returns : goal.returns
 returns g c =
     let j = setting_by g.Tone.Tone.algebra g.P.Plan.meaning g.Q.Quantiser.tables c.args.self.now in
     record {
-      few = c.take-all.ensures.few;
-      after = c.take-all.ensures.after ∙ taken_one j c.args.place 1 (band c.args.codes.now c.args.amounts.now);
+      few = c.take_all.ensures.few;
+      after = c.take_all.ensures.after ∙ taken_one j c.args.place 1 (band c.args.codes.now c.args.amounts.now);
     }

@@ -17,11 +17,11 @@ returns g c =
     let codes = c.args.codes.now in
     let p = meant a g.P.Plan.meaning g.Q.Quantiser.tables c.args.self.now drawing in
     let b = band codes amounts in
-    let is : fits p b ≡ true = sym c.lengths-match.ensures ∙ c.if-not-lengths-match.false in
+    let is : fits p b ≡ true = sym c.lengths_match.ensures ∙ c.if-not-lengths_match.false in
     let f = fitting p b is in
     same_totals
     (c.total.ensures ∙ sum_of_all a drawing _ f.drawing)
-    (c.sum-outputs.ensures ∙ ap (total a (output_at a t codes)) f.codes)
-    c.sum-losses.ensures
-    (c.sum-open.ensures ∙ ap (total a (open_at a codes amounts)) f.amounts)
+    (c.sum_outputs.ensures ∙ ap (total a (output_at a t codes)) f.codes)
+    c.sum_losses.ensures
+    (c.sum_open.ensures ∙ ap (total a (open_at a codes amounts)) f.amounts)
     ∙ sym (cond-true (fits p b) _ _ is)

@@ -5,8 +5,8 @@ use Rattle.job.specs.Meaning.{setting_by, band}
 use Rattle.job.proofs.Taking.{taken_visits}
 use Rattle.job.proofs.job.Job.visit.Goals as goal
 
-pub take-one-requires : goal.take-one-requires
-take-one-requires g c =
+pub take_one-requires : goal.take_one-requires
+take_one-requires g c =
     let size = c.args.self.now.size in
     record {
       inside = omega (arith, mul-add-lt c.args.row size.columns c.args.column size.rows c.requires.row c.requires.column, mul_comm size.rows size.columns);
@@ -24,6 +24,6 @@ returns g c =
     let inside : s < size.rows * size.columns = omega (arith, mul-add-lt c.args.row size.columns c.args.column size.rows c.requires.row c.requires.column, mul_comm size.rows size.columns) in
     let laws = (lays_out size.rows size.columns (g.P.Plan.meaning job.plan) (g.met.P.Plan.lawful job.plan)).laws in
     record {
-      few = c.take-one.ensures.few;
-      after = c.take-one.ensures.after ∙ taken_visits j s (band c.args.codes.now c.args.amounts.now) laws inside c.requires.lower;
+      few = c.take_one.ensures.few;
+      after = c.take_one.ensures.after ∙ taken_visits j s (band c.args.codes.now c.args.amounts.now) laws inside c.requires.lower;
     }

@@ -2,19 +2,19 @@ use Rattle.std.proofs.Common.{◌≡◌, ◌+◌, ◌<◌, length, sym, refl, su
 use Rattle.std.proofs.lemmas.Bool.{false≢true}
 use Rattle.job.proofs.Unpacking.{Written, written_none, next_within, written_standing, written_open, not_each, each_all, codes_all}
 use Rattle.job.proofs.job.codes.write_codes.Goals as goal
-use Rattle.job.proofs.job.codes.write_codes.Goals.{then-is-standing+else-code, else-is-standing}
+use Rattle.job.proofs.job.codes.write_codes.Goals.{then-is_standing+else-code, else-is_standing}
 
 pub loop-place-init : goal.loop-place-init
 loop-place-init c = written_none (length c.args.codes.now) c.args.saved.now c.args.codes.now
 
 pub bounds-saved-next : goal.bounds-saved-next
 bounds-saved-next c =
-    next_within (length c.args.codes.now) c.args.saved.now c.loop-place.place c.loop-place.next c.loop-place.invariant.next-is (omega arith) (sym c.if-is-standing.ensures) c.requires.due
+    next_within (length c.args.codes.now) c.args.saved.now c.loop-place.place c.loop-place.next c.loop-place.invariant.next-is (omega arith) (sym c.if-is_standing.ensures) c.requires.due
 
-pub overflow-add-next-then-is-standing : goal.overflow-add-next-then-is-standing
-overflow-add-next-then-is-standing c =
+pub overflow_add-next-then-is_standing : goal.overflow_add-next-then-is_standing
+overflow_add-next-then-is_standing c =
     let within =
-    next_within (length c.args.codes.now) c.args.saved.now c.loop-place.place c.loop-place.next c.loop-place.invariant.next-is (omega arith) (sym c.if-is-standing.ensures) c.requires.due in
+    next_within (length c.args.codes.now) c.args.saved.now c.loop-place.place c.loop-place.next c.loop-place.invariant.next-is (omega arith) (sym c.if-is_standing.ensures) c.requires.due in
     search rules
 
 pub loop-place-preserved : goal.loop-place-preserved
@@ -23,11 +23,11 @@ loop-place-preserved c =
     let saved = c.args.saved.now in
     let s = c.loop-place.place in
     let inside : s < length c.loop-place.codes = omega arith in
-    elim c.if-is-standing.branch [
-      | then-is-standing+else-code w ↦ subst₂ (λ next codes. Written n saved (s + 1) next codes) (sym w.next-is) (sym w.codes-is)
-          (written_standing n saved s c.loop-place.next c.loop-place.codes c.loop-place.invariant inside (sym w.if-is-standing.ensures) w.if-code.false)
-      | else-is-standing w ↦ subst₂ (λ next codes. Written n saved (s + 1) next codes) (sym w.next-is) (sym w.codes-is)
-          (written_open n saved s c.loop-place.next c.loop-place.codes c.loop-place.invariant inside (sym w.if-is-standing.ensures))
+    elim c.if-is_standing.branch [
+      | then-is_standing+else-code w ↦ subst₂ (λ next codes. Written n saved (s + 1) next codes) (sym w.next-is) (sym w.codes-is)
+          (written_standing n saved s c.loop-place.next c.loop-place.codes c.loop-place.invariant inside (sym w.if-is_standing.ensures) w.if-code.false)
+      | else-is_standing w ↦ subst₂ (λ next codes. Written n saved (s + 1) next codes) (sym w.next-is) (sym w.codes-is)
+          (written_open n saved s c.loop-place.next c.loop-place.codes c.loop-place.invariant inside (sym w.if-is_standing.ensures))
     ]
 
 pub returns-then-code : goal.returns-then-code
@@ -38,7 +38,7 @@ returns-then-code c =
     record {
       each = (
         λ e. absurd (false≢true e),
-        λ each. absurd (not_each n saved c.loop-place.place c.loop-place.next c.loop-place.codes c.loop-place.invariant inside (sym c.if-is-standing.ensures) c.if-code.true each),
+        λ each. absurd (not_each n saved c.loop-place.place c.loop-place.next c.loop-place.codes c.loop-place.invariant inside (sym c.if-is_standing.ensures) c.if-code.true each),
       );
       written = λ e. absurd (false≢true e);
     }

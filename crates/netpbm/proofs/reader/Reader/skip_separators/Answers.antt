@@ -6,13 +6,13 @@ pub loop-self-preserved : goal.loop-self-preserved
 loop-self-preserved c =
     let input = c.loop-self.self.input.now in
     let at = c.loop-self.self.position in
-    (c.loop-self.invariant.0, start_yes input at (omega arith) (sym c.if-is-separator.ensures) ∙ c.loop-self.invariant.1)
+    (c.loop-self.invariant.0, start_yes input at (omega arith) (sym c.if-is_separator.ensures) ∙ c.loop-self.invariant.1)
 
-pub returns-else-is-separator : goal.returns-else-is-separator
-returns-else-is-separator c =
+pub returns-else-is_separator : goal.returns-else-is_separator
+returns-else-is_separator c =
     let input = c.loop-self.self.input.now in
     let at = c.loop-self.self.position in
-    record { input = c.loop-self.invariant.0; after = sym (start_no input at (omega arith) (sym c.if-is-separator.ensures)) ∙ c.loop-self.invariant.1 }
+    record { input = c.loop-self.invariant.0; after = sym (start_no input at (omega arith) (sym c.if-is_separator.ensures)) ∙ c.loop-self.invariant.1 }
 
 pub returns-after-loop-self : goal.returns-after-loop-self
 returns-after-loop-self c =

@@ -10,7 +10,7 @@ returns-in-None c =
     let i = c.loop-self.self.position in
     let v = c.loop-self.value in
     let inv = c.loop-self.invariant in
-    let more = word_more xs i (omega arith) (sym c.if-not-is-separator.ensures) in
+    let more = word_more xs i (omega arith) (sym c.if-not-is_separator.ensures) in
     let none = ap (λ w. capped (spelled v w)) more ∙ spelled_none v (get_or xs i 0) (word_from (drop (i + 1) xs)) c.in-None.ensures in
     record { input = inv.0; value = sym none ∙ inv.1; after = λ e. absurd (false≢true e) }
 
@@ -22,18 +22,18 @@ loop-self-preserved c =
     let b = get_or xs i 0 in
     let inv = c.loop-self.invariant in
     let got = c.in-Some.ensures in
-    let more = word_more xs i (omega arith) (sym c.if-not-is-separator.ensures) in
+    let more = word_more xs i (omega arith) (sym c.if-not-is_separator.ensures) in
     let step = ap (λ w. capped (spelled v w)) more ∙ ap capped (spelled-digit v b (word_from (drop (i + 1) xs)) got.0)
     ∙ ap (λ n. capped (spelled n (word_from (drop (i + 1) xs)))) (sym got.1) in
     (inv.0, sym step ∙ inv.1, omega (arith, ap length more, inv.2), got.2)
 
-pub returns-else-not-is-separator : goal.returns-else-not-is-separator
-returns-else-not-is-separator c =
+pub returns-else-not-is_separator : goal.returns-else-not-is_separator
+returns-else-not-is_separator c =
     let xs = c.loop-self.self.input.now in
     let i = c.loop-self.self.position in
     let v = c.loop-self.value in
     let inv = c.loop-self.invariant in
-    let done = word_ended xs i (omega arith) (sym c.if-not-is-separator.ensures) in
+    let done = word_ended xs i (omega arith) (sym c.if-not-is_separator.ensures) in
     record {
       input = inv.0;
       value = sym (capped_some v inv.3) ∙ ap (λ w. capped (spelled v w)) (sym done) ∙ inv.1;

@@ -2,8 +2,8 @@ use Rattle.std.proofs.Common.{arith}
 use Rattle.std.proofs.lemmas.Nat.{mul-le}
 use Rattle.plan.proofs.table.TablePlan.rank.Goals as goal
 
-pub rank-in-requires : goal.rank-in-requires
-rank-in-requires c =
+pub rank_in-requires : goal.rank_in-requires
+rank_in-requires c =
     let t = c.args.self.now in
     record {
       row_period = omega arith;

@@ -20,6 +20,6 @@ returns c =
     let w = c.args.weight in
     let W = c.args.total in
     let fits : SFits w32 e.value = record { sfits = e.fits } in
-    let short : SFits w32 c.part.result = record { sfits = c.part.type-inv } in
+    let short : SFits w32 c.part.result = record { sfits = c.part.type_inv } in
     let some : to_z w32 (of_z w32 c.part.result) ≡ share_value e.value w W = grind (arith, nat_tests, to_z-of_z) in
     same-grey (some ∙ sym (share_exact e w W))
