@@ -7,7 +7,7 @@ ghost use Rattle.quantiser.specs.Joined.{side_sound};
 use crate::counts::Counts;
 use crate::quantiser::Quantiser;
 use refusal::Refusal;
-use tone::{Pair, Tone, Tone as _};
+use tone::{Pair, Tone};
 
 // The two counts; 19 where their product, which may pass a byte, is above 254.
 fn kept_counts(first: u8, second: u8) -> Result<Counts, Refusal>
@@ -32,7 +32,7 @@ pub struct SideBySide<L, R> {
 impl<L: Quantiser + Drop, R: Quantiser + Drop> SideBySide<L, R> {
     // The two side by side; 19 where the product of their counts is above 254.
     pub fn new(left: L, right: R) -> Result<SideBySide<L, R>, Refusal>
-        ensures { MatchResult result (λ q. Beside (L.Quantiser.tables left) (R.Quantiser.tables right) (side_by_side Tone-as-Tone-1.algebra Tone-as-Tone-2.algebra q.counts (L.Quantiser.tables q.left) (R.Quantiser.tables q.right))) (λ e. (number_of e ≡ 19) × (254 < (L.Quantiser.tables left).count * (R.Quantiser.tables right).count)) }
+        ensures { MatchResult result (λ q. Beside (L.Quantiser.tables left) (R.Quantiser.tables right) (side_by_side L.Tone.Tone.algebra R.Tone.Tone.algebra q.counts (L.Quantiser.tables q.left) (R.Quantiser.tables q.right))) (λ e. (number_of e ≡ 19) × (254 < (L.Quantiser.tables left).count * (R.Quantiser.tables right).count)) }
     {
         let counts = kept_counts(left.count(), right.count())?;
         Ok(SideBySide {
@@ -46,9 +46,9 @@ impl<L: Quantiser + Drop, R: Quantiser + Drop> SideBySide<L, R> {
 impl<L: Quantiser, R: Quantiser> Quantiser for SideBySide<L, R> {
     type Tone = Pair<L::Tone, R::Tone>;
 
-    ghost tables = { λ q. side_by_side Tone-as-Tone-1.algebra Tone-as-Tone-2.algebra q.counts (L.Quantiser.tables q.left) (R.Quantiser.tables q.right) };
+    ghost tables = { λ q. side_by_side L.Tone.Tone.algebra R.Tone.Tone.algebra q.counts (L.Quantiser.tables q.left) (R.Quantiser.tables q.right) };
 
-    ghost sound = { λ q. side_sound Tone-as-Tone-1.algebra Tone-as-Tone-2.algebra q.counts (L.Quantiser.tables q.left) (R.Quantiser.tables q.right) };
+    ghost sound = { λ q. side_sound L.Tone.Tone.algebra R.Tone.Tone.algebra q.counts (L.Quantiser.tables q.left) (R.Quantiser.tables q.right) };
 
     fn count(&self) -> u8 {
         self.counts.product()

@@ -9,7 +9,7 @@ ghost use Rattle.quantiser.specs.Smallest.{least-within};
 
 use crate::palette::{Entry, Palette};
 use crate::quantiser::Quantiser;
-use tone::{Colour, Grey, Tone, Tone as _};
+use tone::{Colour, Grey, Tone};
 
 // The absolute difference of one channel. It passes 32 bits, and three of them fit 64.
 fn channel_apart(x: Grey, byte: u8) -> u64

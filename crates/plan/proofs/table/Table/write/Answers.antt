@@ -13,16 +13,13 @@ invariant_of-self c =
     let bytes = c.args.bytes.now in
     let ranks = c.padded-ranks.result in
     let sized : Sized p q (length bytes) = c.if-not-is_sized.ensures.0 refl in
-    let alike = tabled_alike p q bytes ranks sized c.padded-ranks.ensures in (
-      omega arith,
-      (
-        omega arith,
-        (
-          λ i j. omega (arith, alike i j, c.type_inv.bytes ((i % p) * q + j % q)),
-          (λ clash. c.if-not-is_apart.ensures (clash_alike (tabled p q ranks) (tabled p q bytes) alike clash), tt),
-        ),
-      ),
-    )
+    let alike = tabled_alike p q bytes ranks sized c.padded-ranks.ensures in
+    record {
+      height = omega arith;
+      width = omega arith;
+      bytes = λ i j. omega (arith, alike i j, c.type_inv.bytes ((i % p) * q + j % q));
+      apart = λ clash. c.if-not-is_apart.ensures (clash_alike (tabled p q ranks) (tabled p q bytes) alike clash);
+    }
 
 pub returns : goal.returns
 returns c =
