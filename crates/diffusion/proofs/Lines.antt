@@ -104,17 +104,17 @@ module _ (rows columns : Line) (rl : LineLaws rows) (cl : LineLaws columns) (pla
   laid_out_laws : Laws (laid_out rows columns plan)
   laid_out_laws = record {
     inside = λ s d t l ld h. let k = reached s d t l h in
-        omega (arith, k.place, mul-add-lt k.row columns.size k.column rows.size k.to_row k.to-column);
+        omega (arith, k.place, mul-add-lt k.row columns.size k.column rows.size k.to_row k.to_column);
     returns = λ s d t l ld h. let k = reached s d t l h in
-        ap₂ (λ r c. neighbour rows columns r c (opposite d)) k.row_is k.column-is
-        ∙ inner rows columns k.row k.column (opposite d) k.to_row k.to-column
+        ap₂ (λ r c. neighbour rows columns r c (opposite d)) k.row_is k.column_is
+        ∙ inner rows columns k.row k.column (opposite d) k.to_row k.to_column
         ∙ ap₂ (both columns.size)
         (ap (λ m. step rows m k.row) (down-opposite d ld) ∙ rl.turns (down d) (s / columns.size) k.row k.from_row k.by_row)
-        (ap (λ m. step columns m k.column) (across-opposite d ld) ∙ cl.turns (across d) (s % columns.size) k.column k.from-column k.by-column)
+        (ap (λ m. step columns m k.column) (across-opposite d ld) ∙ cl.turns (across d) (s % columns.size) k.column k.from_column k.by_column)
         ∙ ap Some (div-add-mod' s columns.size);
     apart = λ s d t l ld h e. let k = reached s d t l h in
-        apart d (s / columns.size) (s % columns.size) k.row k.column ld k.from_row k.from-column k.by_row k.by-column
-        (e ∙ ap₂ plan.rank k.row_is k.column-is);
+        apart d (s / columns.size) (s % columns.size) k.row k.column ld k.from_row k.from_column k.by_row k.by_column
+        (e ∙ ap₂ plan.rank k.row_is k.column_is);
   }
 
 -- a step between numbers of the line without ends

@@ -118,7 +118,7 @@ pub fn plain_drawing_keeps_the_laws() -> u8
 
 // Every drawing under any plan and any quantiser keeps the laws that the theorems ask for.
 pub fn every_drawing_is_lawful<P: Plan, Q: Quantiser>() -> u8
-    ensures { (p : P) (q : Q) → LawfulDrawing Tone-as-Tone.algebra (meaning p) (tables q) }
+    ensures { (p : P) (q : Q) → LawfulDrawing Q.Tone.Tone.algebra (P.Plan.meaning p) (Q.Quantiser.tables q) }
 {
     0
 }

@@ -48,12 +48,12 @@ module _ (n : ℕ) (rec : List ℕ) where
   module _ (s next : ℕ) (cs : List ℕ) (w : Written s next cs) where
     -- the code that is read
     pub read_is : get_or rec next 0 ≡ code_in n rec s
-    read_is = ap (λ i. get_or rec i 0) w.next-is
+    read_is = ap (λ i. get_or rec i 0) w.next_is
 
     -- one place more, that stands and has a code,
     pub written_standing : s < length cs → stands rec s ≡ true → (get_or rec next 0 ≡ 255 → ⊥) → Written (s + 1) (next + 1) (set cs s (get_or rec next 0))
     written_standing l e ne = record {
-      next_is = (let one = counted-standing rec s (stand_below rec s) refl e in let is = w.next-is in omega arith);
+      next_is = (let one = counted-standing rec s (stand_below rec s) refl e in let is = w.next_is in omega arith);
       codes = (let same : get_or rec next 0 ≡ code_at s = read_is ∙ sym (cond-true (stands rec s) (code_in n rec s) 255 e) in
           λ k h. ap (λ c. get_or (set cs s c) k 0) same ∙ fill_by_more code_at cs s 0 l w.codes k h);
       each = below_more (λ k. stands rec k ≡ true → code_in n rec k ≡ 255 → ⊥) s w.each (λ t is. ne (read_is ∙ is));
@@ -62,7 +62,7 @@ module _ (n : ℕ) (rec : List ℕ) where
     -- or that does not stand
     pub written_open : s < length cs → stands rec s ≡ false → Written (s + 1) next (set cs s 255)
     written_open l e = record {
-      next_is = (let same = counted_other rec s (stand_below rec s) refl e in let is = w.next-is in omega arith);
+      next_is = (let same = counted_other rec s (stand_below rec s) refl e in let is = w.next_is in omega arith);
       codes = (let same : 255 ≡ code_at s = sym (cond-false (stands rec s) (code_in n rec s) 255 e) in
           λ k h. ap (λ c. get_or (set cs s c) k 0) same ∙ fill_by_more code_at cs s 0 l w.codes k h);
       each = below_more (λ k. stands rec k ≡ true → code_in n rec k ≡ 255 → ⊥) s w.each (λ t is. false≢true (sym e ∙ t));

@@ -1,6 +1,6 @@
 // The pattern of a square: each rank is asked once.
 ghost use Rattle.std.specs.Prelude.{◌≡◌, ℕ, ◌+◌, ◌*◌, ◌<◌, ◌≤◌, length};
-ghost use Rattle.grid.specs.Directions.{number_of, down, across, weight as weight-of};
+ghost use Rattle.grid.specs.Directions.{number_of, down, across, weight as weight_of};
 ghost use Rattle.grid.specs.Lines.{plain, step};
 ghost use Rattle.job.specs.Meaning.{squares_of};
 ghost use Rattle.job.specs.Patterns.{kind_at, kinds_weight, kinds_last, PatternOf};
@@ -14,7 +14,7 @@ use quantiser::Quantiser;
 
 // The weight of a direction, told by its number.
 fn weight(direction: usize) -> u8
-    ensures { result ≡ weight-of direction }
+    ensures { result ≡ weight_of direction }
 {
     if direction % 2 == 0 { 2 } else { 1 }
 }

@@ -25,7 +25,7 @@ returns-in_err-check_codes c =
     let w = c.row_bytes.result in
     let due = total_is rows columns codes start w c.header_length-start.ensures.value c.row_bytes.ensures in
     let by = refused_by_codes rows columns codes (length c.args.out.now) (start + rows * w) (omega arith) due (omega arith) in
-    let p = err_from_is_err_and c.from-residual.result c.from-residual.ensures.1 in
+    let p = err_from_is_err_and c.from_residual.result c.from_residual.ensures.1 in
     rw (p.1, p.2) (c.in_err-check_codes.ensures ∙ sym by, refl)
 
 pub returns : goal.returns

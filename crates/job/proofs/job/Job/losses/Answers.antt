@@ -21,4 +21,4 @@ returns g c =
     let l = c.list_losses.ensures in
     let counted = c.count_losses-count.ensures in
     list_whole (fits p b) is ps (map (tone_at a amounts) ps) c.args.places.now c.args.errors.now (listed (Refused 2) c.args.places.now c.args.errors.now)
-    c.list_losses.result c.list_losses.new.places c.list_losses.new.errors l.many (omega arith) (omega arith) l.places l.places-behind l.errors l.errors_behind
+    c.list_losses.result c.list_losses.new.places c.list_losses.new.errors l.many (omega arith) (omega arith) l.places l.places_behind l.errors l.errors_behind
