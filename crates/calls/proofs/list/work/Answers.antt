@@ -14,7 +14,7 @@ use Rattle.calls.proofs.list.work.Goals as goal
 
 pub returns : goal.returns
 returns g c =
-    let tone = g.Tone.Tone.algebra in
+    let tone = g.Q.Tone.Tone.algebra in
     let ranks = g.P.Plan.meaning in
     let tables = g.Q.Quantiser.tables in
     let rows = c.args.rows in
@@ -35,7 +35,7 @@ returns g c =
     let quantiser-is = told.quantiser in
     let same : meant tone ranks tables c.open_refusal.result.1 drawing ≡ p
     = λ i. job_of tone (rows_is i) (columns-is i) (ranks (plan-is i)) (tables (quantiser-is i)) drawing in
-    let law = lawful_job tone rows columns (ranks c.args.plan) (tables c.args.quantiser) drawing g.met.Tone.Tone.lawful (g.met.P.Plan.lawful c.args.plan) (g.met.Q.Quantiser.sound c.args.quantiser) long.drawing in
+    let law = lawful_job tone rows columns (ranks c.args.plan) (tables c.args.quantiser) drawing g.met.Q.Tone.Tone.lawful (g.met.P.Plan.lawful c.args.plan) (g.met.Q.Quantiser.sound c.args.quantiser) long.drawing in
     let start_is : start ≡ opened p.setting
     = told.bands ∙ ap (λ n. unless n (opened_on drawing before) before) zero
     ∙ opened_on_is tone rows columns (ranks c.args.plan) (tables c.args.quantiser) drawing before long.drawing long.codes in

@@ -6,7 +6,7 @@ use Rattle.calls.proofs.list.work_on.Goals as goal
 
 pub loop-i-preserved : goal.loop-i-preserved
 loop-i-preserved g c =
-    turn_by (meant g.Tone.Tone.algebra g.P.Plan.meaning g.Q.Quantiser.tables c.args.job.now c.args.drawing.now) c.args.calls.now c.args.answers.now _ c.loop-i.i c.call_at-call.result
+    turn_by (meant g.Q.Tone.Tone.algebra g.P.Plan.meaning g.Q.Quantiser.tables c.args.job.now c.args.drawing.now) c.args.calls.now c.args.answers.now _ c.loop-i.i c.call_at-call.result
     c.loop-i.answers c.put.new.list c.perform-answer.result
     (band c.loop-i.codes c.loop-i.amounts) (band c.perform-answer.new.codes c.perform-answer.new.amounts)
     (pools c.loop-i.bytes c.loop-i.places c.loop-i.errors) (pools c.perform-answer.new.bytes c.perform-answer.new.places c.perform-answer.new.errors)
@@ -14,5 +14,5 @@ loop-i-preserved g c =
 
 pub returns : goal.returns
 returns g c =
-    turned (meant g.Tone.Tone.algebra g.P.Plan.meaning g.Q.Quantiser.tables c.args.job.now c.args.drawing.now) c.args.calls.now c.args.answers.now _ c.loop-i.i c.loop-i.answers _ _
+    turned (meant g.Q.Tone.Tone.algebra g.P.Plan.meaning g.Q.Quantiser.tables c.args.job.now c.args.drawing.now) c.args.calls.now c.args.answers.now _ c.loop-i.i c.loop-i.answers _ _
     c.loop-i-test.false (omega arith) c.loop-i.invariant

@@ -12,7 +12,7 @@ use Rattle.job.proofs.job.Job.finish.Goals as goal
 pub returns : goal.returns
 returns g c =
     let job = c.args.self.now in
-    let tone = g.Tone.Tone.algebra in
+    let tone = g.Q.Tone.Tone.algebra in
     let plan = g.P.Plan.meaning job.plan in
     let tables = g.Q.Quantiser.tables job.quantiser in
     let drawing = c.args.drawing.now in

@@ -7,7 +7,7 @@ use Rattle.job.proofs.job.Job.fix.Goals.{then-row-self-via-then-row-self, then-r
 pub returns-then-row-self : goal.returns-then-row-self
 returns-then-row-self g c =
     let size = c.args.self.now.size in
-    let p = meant g.Tone.Tone.algebra g.P.Plan.meaning g.Q.Quantiser.tables c.args.self.now c.args.drawing.now in
+    let p = meant g.Q.Tone.Tone.algebra g.P.Plan.meaning g.Q.Quantiser.tables c.args.self.now c.args.drawing.now in
     let out : ltb c.args.row size.rows && ltb c.args.column size.columns ≡ false
     = elim c.then-row-self.branch [
       | then-row-self-via-then-row-self w ↦ row_outside c.args.row size.rows (ltb c.args.column size.columns) w.if-row-self.true

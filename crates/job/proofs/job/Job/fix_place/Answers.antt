@@ -8,7 +8,7 @@ use Rattle.job.proofs.job.Job.fix_place.Goals as goal
 
 pub returns-then-place-squares : goal.returns-then-place-squares
 returns-then-place-squares g c =
-    let j = setting_by g.Tone.Tone.algebra g.P.Plan.meaning g.Q.Quantiser.tables c.args.self.now in
+    let j = setting_by g.Q.Tone.Tone.algebra g.P.Plan.meaning g.Q.Quantiser.tables c.args.self.now in
     attempt_refused j c.args.place (band c.args.codes.now c.args.amounts.now) 2
     (refused_outside j.squares (standing c.args.codes.now) c.args.place (omega arith))
 

@@ -11,7 +11,7 @@ use Rattle.job.proofs.job.Job.follow.Goals as goal
 
 pub loop-place-init : goal.loop-place-init
 loop-place-init g c =
-    let p = meant g.Tone.Tone.algebra g.P.Plan.meaning g.Q.Quantiser.tables c.args.self.now c.args.drawing.now in
+    let p = meant g.Q.Tone.Tone.algebra g.P.Plan.meaning g.Q.Quantiser.tables c.args.self.now c.args.drawing.now in
     (refl, follow_begun p.setting (band c.args.codes.now c.args.amounts.now) c.args.places.now)
 
 pub overflow_add-count : goal.overflow_add-count
@@ -19,13 +19,13 @@ overflow_add-count g c = omega arith
 
 pub fix_place-requires : goal.fix_place-requires
 fix_place-requires g c =
-    let p = meant g.Tone.Tone.algebra g.P.Plan.meaning g.Q.Quantiser.tables c.args.self.now c.args.drawing.now in
+    let p = meant g.Q.Tone.Tone.algebra g.P.Plan.meaning g.Q.Quantiser.tables c.args.self.now c.args.drawing.now in
     let fit = fitting p (band c.args.codes.now c.args.amounts.now) (sym c.if-not-lengths_match.ensures) in
     record { amounts = c.loop-place.auto.amounts ∙ fit.amounts; codes = c.loop-place.auto.codes ∙ fit.codes }
 
 pub loop-place-preserved : goal.loop-place-preserved
 loop-place-preserved g c =
-    let j = (meant g.Tone.Tone.algebra g.P.Plan.meaning g.Q.Quantiser.tables c.args.self.now c.args.drawing.now).setting in
+    let j = (meant g.Q.Tone.Tone.algebra g.P.Plan.meaning g.Q.Quantiser.tables c.args.self.now c.args.drawing.now).setting in
     let start = band c.args.codes.now c.args.amounts.now in
     let ps = c.args.places.now in
     let i = c.loop-place.place-index in
@@ -37,7 +37,7 @@ loop-place-preserved g c =
 
 pub returns-in-Err : goal.returns-in-Err
 returns-in-Err g c =
-    let p = meant g.Tone.Tone.algebra g.P.Plan.meaning g.Q.Quantiser.tables c.args.self.now c.args.drawing.now in
+    let p = meant g.Q.Tone.Tone.algebra g.P.Plan.meaning g.Q.Quantiser.tables c.args.self.now c.args.drawing.now in
     let start = band c.args.codes.now c.args.amounts.now in
     let ps = c.args.places.now in
     let i = c.loop-place.place-index in
@@ -52,7 +52,7 @@ returns-in-Err g c =
 
 pub returns : goal.returns
 returns g c =
-    let p = meant g.Tone.Tone.algebra g.P.Plan.meaning g.Q.Quantiser.tables c.args.self.now c.args.drawing.now in
+    let p = meant g.Q.Tone.Tone.algebra g.P.Plan.meaning g.Q.Quantiser.tables c.args.self.now c.args.drawing.now in
     let start = band c.args.codes.now c.args.amounts.now in
     let ps = c.args.places.now in
     let after = band c.loop-place.codes c.loop-place.amounts in

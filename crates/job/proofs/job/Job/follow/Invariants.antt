@@ -6,4 +6,4 @@ use Rattle.job.proofs.job.Job.follow.Given as goal
 abbrev pub invariant-loop-place : goal.invariant-loop-place
 invariant-loop-place g l =
     (l.count ≡ l.place-index)
-    × FollowedTo (meant g.Tone.Tone.algebra g.P.Plan.meaning g.Q.Quantiser.tables l.self l.drawing).setting (band l.initial.codes l.initial.amounts) l.places l.place-index (band l.codes l.amounts)
+    × FollowedTo (meant g.Q.Tone.Tone.algebra g.P.Plan.meaning g.Q.Quantiser.tables l.self l.drawing).setting (band l.initial.codes l.initial.amounts) l.places l.place-index (band l.codes l.amounts)

@@ -15,7 +15,7 @@ pub returns-then-out-total : goal.returns-then-out-total
 returns-then-out-total g c =
     let j = c.args.self.now in
     let codes = c.args.codes.now in
-    let p = meant g.Tone.Tone.algebra g.P.Plan.meaning g.Q.Quantiser.tables j c.args.drawing.now in
+    let p = meant g.Q.Tone.Tone.algebra g.P.Plan.meaning g.Q.Quantiser.tables j c.args.drawing.now in
     let b = band codes c.args.amounts.now in
     let is : fits p b ≡ true = sym c.lengths_match.ensures ∙ c.if-not-lengths_match.false in
     let long = length_record j.size.rows j.size.columns codes in
@@ -29,7 +29,7 @@ returns g c =
     let columns = j.size.columns in
     let codes = c.args.codes.now in
     let out = c.args.out.now in
-    let p = meant g.Tone.Tone.algebra g.P.Plan.meaning g.Q.Quantiser.tables j c.args.drawing.now in
+    let p = meant g.Q.Tone.Tone.algebra g.P.Plan.meaning g.Q.Quantiser.tables j c.args.drawing.now in
     let b = band codes c.args.amounts.now in
     let is : fits p b ≡ true = sym c.lengths_match.ensures ∙ c.if-not-lengths_match.false in
     let long = length_record rows columns codes in

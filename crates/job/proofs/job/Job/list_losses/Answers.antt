@@ -5,7 +5,7 @@ use Rattle.job.proofs.job.Job.list_losses.Goals as goal
 
 pub loop-row-init : goal.loop-row-init
 loop-row-init g c =
-    let a = g.Tone.Tone.algebra in
+    let a = g.Q.Tone.Tone.algebra in
     let j = c.args.self.now in
     let squares = squares_of g.P.Plan.meaning j in
     let codes = c.args.codes.now in
@@ -16,7 +16,7 @@ loop-row-init g c =
 
 pub loop-row-preserved : goal.loop-row-preserved
 loop-row-preserved g c =
-    let a = g.Tone.Tone.algebra in
+    let a = g.Q.Tone.Tone.algebra in
     let j = c.args.self.now in
     let squares = squares_of g.P.Plan.meaning j in
     let le : c.loop-row.row * j.size.columns ≤ (c.loop-row.row + 1) * j.size.columns = omega (arith, add-mul c.loop-row.row 1 j.size.columns) in

@@ -55,7 +55,7 @@ overflow_add-count g c =
 
 pub loop-column-preserved : goal.loop-column-preserved
 loop-column-preserved g c =
-    let a = g.Tone.Tone.algebra in
+    let a = g.Q.Tone.Tone.algebra in
     let j = c.args.self.now in
     let squares = squares_of g.P.Plan.meaning j in
     let codes = c.args.codes.now in

@@ -10,7 +10,7 @@ use Rattle.job.proofs.job.Job.losses.Goals as goal
 
 pub returns : goal.returns
 returns g c =
-    let a = g.Tone.Tone.algebra in
+    let a = g.Q.Tone.Tone.algebra in
     let j = c.args.self.now in
     let codes = c.args.codes.now in
     let amounts = c.args.amounts.now in

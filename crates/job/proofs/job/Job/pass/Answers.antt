@@ -10,7 +10,7 @@ use Rattle.job.proofs.job.Job.pass.Goals as goal
 pub loop-row-init : goal.loop-row-init
 loop-row-init g c =
     let job = c.args.self.now in
-    let j = setting_by g.Tone.Tone.algebra g.P.Plan.meaning g.Q.Quantiser.tables job in
+    let j = setting_by g.Q.Tone.Tone.algebra g.P.Plan.meaning g.Q.Quantiser.tables job in
     let b = band c.args.codes.now c.args.amounts.now in
     let least = (g.met.P.Plan.lawful job.plan).row_period.least in
     let some : 0 < (g.P.Plan.meaning job.plan).row_period = omega arith in (
@@ -31,7 +31,7 @@ pass_row-count-requires g c =
     let least = law.row_period.least in
     let below : row % plan.row_period < plan.row_period = mod_below row plan.row_period (omega arith) in
     let short : phase < plan.row_period = omega (arith, inv.1) in
-    let j = setting_by g.Tone.Tone.algebra g.P.Plan.meaning g.Q.Quantiser.tables job in
+    let j = setting_by g.Q.Tone.Tone.algebra g.P.Plan.meaning g.Q.Quantiser.tables job in
     record {
       row = c.loop-row-test.true;
       first = first_same plan law job.size.columns c.args.rank row phase _ (mod-eq_of_lt short ∙ inv.1) (c.first_columns-firsts.ensures.each phase short (omega (arith, inv.0, c.loop-row-test.true)));
@@ -45,7 +45,7 @@ loop-row-preserved g c =
     let job = c.args.self.now in
     let columns = job.size.columns in
     let plan = g.P.Plan.meaning job.plan in
-    let j = setting_by g.Tone.Tone.algebra g.P.Plan.meaning g.Q.Quantiser.tables job in
+    let j = setting_by g.Q.Tone.Tone.algebra g.P.Plan.meaning g.Q.Quantiser.tables job in
     let k = c.loop-row.row in
     let inv = c.loop-row.invariant in
     let next : (k + 1) * columns ≡ k * columns + columns = add-mul k 1 columns ∙ ap (λ n. k * columns + n) (one-mul columns) in (

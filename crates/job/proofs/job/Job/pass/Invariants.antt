@@ -5,7 +5,7 @@ use Rattle.job.proofs.job.Job.pass.Given as goal
 
 abbrev pub invariant-loop-row : goal.invariant-loop-row
 invariant-loop-row g l =
-    let j = setting_by g.Tone.Tone.algebra g.P.Plan.meaning g.Q.Quantiser.tables l.self in
+    let j = setting_by g.Q.Tone.Tone.algebra g.P.Plan.meaning g.Q.Quantiser.tables l.self in
     (l.phase ≤ l.row)
     × (l.phase ≡ l.row % (g.P.Plan.meaning l.self.plan).row_period)
     × (l.count ≤ l.row * l.self.size.columns)

@@ -6,7 +6,7 @@ use Rattle.job.proofs.job.Job.pass_row.Goals as goal
 pub returns-then-first-self : goal.returns-then-first-self
 returns-then-first-self g c =
     let job = c.args.self.now in
-    let tone = g.Tone.Tone.algebra in
+    let tone = g.Q.Tone.Tone.algebra in
     let zeros : ℕ → g.row.Q-Tone.Denot = λ s. tone.zero in
     record {
       few = omega arith;

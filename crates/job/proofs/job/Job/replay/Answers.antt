@@ -7,12 +7,12 @@ use Rattle.job.proofs.job.Job.replay.Goals as goal
 
 pub loop-rank-init : goal.loop-rank-init
 loop-rank-init g c =
-    let j = setting_by g.Tone.Tone.algebra g.P.Plan.meaning g.Q.Quantiser.tables c.args.self.now in
+    let j = setting_by g.Q.Tone.Tone.algebra g.P.Plan.meaning g.Q.Quantiser.tables c.args.self.now in
     (refl, sym (replay-none j c.args.codes.now (Some c.args.amounts.now)))
 
 pub loop-rank-preserved : goal.loop-rank-preserved
 loop-rank-preserved g c =
-    let j = setting_by g.Tone.Tone.algebra g.P.Plan.meaning g.Q.Quantiser.tables c.args.self.now in
+    let j = setting_by g.Q.Tone.Tone.algebra g.P.Plan.meaning g.Q.Quantiser.tables c.args.self.now in
     let inv = c.loop-rank.invariant in
     let did = c.if-not-replay_rank.ensures in (
       did.stay ∙ inv.0,
@@ -21,7 +21,7 @@ loop-rank-preserved g c =
 
 pub returns-then-not-replay_rank : goal.returns-then-not-replay_rank
 returns-then-not-replay_rank g c =
-    let j = setting_by g.Tone.Tone.algebra g.P.Plan.meaning g.Q.Quantiser.tables c.args.self.now in
+    let j = setting_by g.Q.Tone.Tone.algebra g.P.Plan.meaning g.Q.Quantiser.tables c.args.self.now in
     let top = (g.P.Plan.meaning c.args.self.now.plan).top in
     let start = Some c.args.amounts.now in
     let below : c.loop-rank.rank + 1 ≤ suc top = omega (arith, c.top-rank-end.ensures) in
@@ -35,7 +35,7 @@ returns-then-not-replay_rank g c =
 
 pub returns-else-not-replay_rank : goal.returns-else-not-replay_rank
 returns-else-not-replay_rank g c =
-    let j = setting_by g.Tone.Tone.algebra g.P.Plan.meaning g.Q.Quantiser.tables c.args.self.now in
+    let j = setting_by g.Q.Tone.Tone.algebra g.P.Plan.meaning g.Q.Quantiser.tables c.args.self.now in
     let top = (g.P.Plan.meaning c.args.self.now.plan).top in
     let start = Some c.args.amounts.now in
     let all : c.loop-rank.rank + 1 ≡ suc top = omega (arith, c.top-rank-end.ensures) in

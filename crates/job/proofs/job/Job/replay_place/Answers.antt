@@ -5,7 +5,7 @@ use Rattle.job.proofs.job.Job.replay_place.Goals as goal
 
 pub returns : goal.returns
 returns g c =
-    let j = setting_by g.Tone.Tone.algebra g.P.Plan.meaning g.Q.Quantiser.tables c.args.self.now in
+    let j = setting_by g.Q.Tone.Tone.algebra g.P.Plan.meaning g.Q.Quantiser.tables c.args.self.now in
     let codes = c.args.codes.now in
     let amounts = c.args.amounts.now in
     let s = c.args.place in

@@ -7,13 +7,13 @@ use Rattle.job.proofs.job.Job.replay_rank.Goals as goal
 
 pub loop-row-init : goal.loop-row-init
 loop-row-init g c =
-    let j = setting_by g.Tone.Tone.algebra g.P.Plan.meaning g.Q.Quantiser.tables c.args.self.now in
+    let j = setting_by g.Q.Tone.Tone.algebra g.P.Plan.meaning g.Q.Quantiser.tables c.args.self.now in
     let start = Some c.args.amounts.now in
     (refl, sym (ap (replay_sweep j c.args.codes.now c.args.rank start) (zero-mul c.args.self.now.size.columns) ∙ replay_sweep-none j c.args.codes.now c.args.rank start))
 
 pub loop-row-preserved : goal.loop-row-preserved
 loop-row-preserved g c =
-    let j = setting_by g.Tone.Tone.algebra g.P.Plan.meaning g.Q.Quantiser.tables c.args.self.now in
+    let j = setting_by g.Q.Tone.Tone.algebra g.P.Plan.meaning g.Q.Quantiser.tables c.args.self.now in
     let columns = c.args.self.now.size.columns in
     let row = c.loop-row.row in
     let inv = c.loop-row.invariant in
@@ -24,7 +24,7 @@ loop-row-preserved g c =
 
 pub returns-then-not-replay_row : goal.returns-then-not-replay_row
 returns-then-not-replay_row g c =
-    let j = setting_by g.Tone.Tone.algebra g.P.Plan.meaning g.Q.Quantiser.tables c.args.self.now in
+    let j = setting_by g.Q.Tone.Tone.algebra g.P.Plan.meaning g.Q.Quantiser.tables c.args.self.now in
     let size = c.args.self.now.size in
     let start = Some c.args.amounts.now in
     let below : c.loop-row.row + 1 ≤ size.rows = omega arith in
@@ -40,7 +40,7 @@ returns-then-not-replay_row g c =
 
 pub returns : goal.returns
 returns g c =
-    let j = setting_by g.Tone.Tone.algebra g.P.Plan.meaning g.Q.Quantiser.tables c.args.self.now in
+    let j = setting_by g.Q.Tone.Tone.algebra g.P.Plan.meaning g.Q.Quantiser.tables c.args.self.now in
     let size = c.args.self.now.size in
     let all : c.loop-row.row ≡ size.rows = omega arith in
     record { stay = c.loop-row.invariant.0; worked = c.loop-row.invariant.1 ∙ ap (λ r. replay_sweep j c.args.codes.now c.args.rank (Some c.args.amounts.now) (r * size.columns)) all }

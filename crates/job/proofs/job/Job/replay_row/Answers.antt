@@ -6,13 +6,13 @@ use Rattle.job.proofs.job.Job.replay_row.Goals as goal
 
 pub loop-column-init : goal.loop-column-init
 loop-column-init g c =
-    let j = setting_by g.Tone.Tone.algebra g.P.Plan.meaning g.Q.Quantiser.tables c.args.self.now in
+    let j = setting_by g.Q.Tone.Tone.algebra g.P.Plan.meaning g.Q.Quantiser.tables c.args.self.now in
     let k = c.args.row * c.args.self.now.size.columns in
     (refl, row_begun j c.args.codes.now c.args.rank k (k + 0) c.args.amounts.now (omega arith))
 
 pub loop-column-preserved : goal.loop-column-preserved
 loop-column-preserved g c =
-    let j = setting_by g.Tone.Tone.algebra g.P.Plan.meaning g.Q.Quantiser.tables c.args.self.now in
+    let j = setting_by g.Q.Tone.Tone.algebra g.P.Plan.meaning g.Q.Quantiser.tables c.args.self.now in
     let k = c.args.row * c.args.self.now.size.columns in
     let same = c.loop-column.invariant.0 in
     let did = c.if-not-replay_square.ensures in (
@@ -23,7 +23,7 @@ loop-column-preserved g c =
 
 pub returns-then-not-replay_square : goal.returns-then-not-replay_square
 returns-then-not-replay_square g c =
-    let j = setting_by g.Tone.Tone.algebra g.P.Plan.meaning g.Q.Quantiser.tables c.args.self.now in
+    let j = setting_by g.Q.Tone.Tone.algebra g.P.Plan.meaning g.Q.Quantiser.tables c.args.self.now in
     let columns = c.args.self.now.size.columns in
     let k = c.args.row * columns in
     let n = k + (c.loop-column.column + 1) in
@@ -38,7 +38,7 @@ returns-then-not-replay_square g c =
 
 pub returns : goal.returns
 returns g c =
-    let j = setting_by g.Tone.Tone.algebra g.P.Plan.meaning g.Q.Quantiser.tables c.args.self.now in
+    let j = setting_by g.Q.Tone.Tone.algebra g.P.Plan.meaning g.Q.Quantiser.tables c.args.self.now in
     let columns = c.args.self.now.size.columns in
     let all : c.args.row * columns + c.loop-column.column ≡ (c.args.row + 1) * columns = omega (arith, add-mul c.args.row 1 columns) in
     record { stay = c.loop-column.invariant.0; worked = λ start h. c.loop-column.invariant.1 start h ∙ ap (replay_sweep j c.args.codes.now c.args.rank start) all }

@@ -19,7 +19,7 @@ returns-then-codes-place g c =
     let inside : s < length codes = omega (arith, mul-add-lt c.args.row j.size.columns c.args.column j.size.rows c.requires.row c.requires.column, mul_comm j.size.rows j.size.columns) in
     record {
       stay = refl;
-      worked = visit_open (setting_by g.Tone.Tone.algebra g.P.Plan.meaning g.Q.Quantiser.tables j) codes c.args.rank s c.args.amounts.now
+      worked = visit_open (setting_by g.Q.Tone.Tone.algebra g.P.Plan.meaning g.Q.Quantiser.tables j) codes c.args.rank s c.args.amounts.now
           (standing_open codes s inside c.if-codes-place.true);
     }
 
@@ -29,7 +29,7 @@ returns-then-rank g c =
     let s = c.args.row * j.size.columns + c.args.column in
     record {
       stay = refl;
-      worked = visit_other (setting_by g.Tone.Tone.algebra g.P.Plan.meaning g.Q.Quantiser.tables j) c.args.codes.now c.args.rank s c.args.amounts.now
+      worked = visit_other (setting_by g.Q.Tone.Tone.algebra g.P.Plan.meaning g.Q.Quantiser.tables j) c.args.codes.now c.args.rank s c.args.amounts.now
           (λ e. c.if-rank.true (c.rank.ensures ∙ sym ((lays_out j.size.rows j.size.columns (g.P.Plan.meaning j.plan) (g.met.P.Plan.lawful j.plan)).rank c.args.row c.args.column c.requires.column) ∙ e));
     }
 
@@ -51,7 +51,7 @@ returns g c =
     let inside : s < length codes = omega (arith, mul-add-lt c.args.row j.size.columns c.args.column j.size.rows c.requires.row c.requires.column, mul_comm j.size.rows j.size.columns) in
     record {
       stay = c.replay_place.ensures.stay;
-      worked = visit_turn (setting_by g.Tone.Tone.algebra g.P.Plan.meaning g.Q.Quantiser.tables j) codes c.args.rank s c.args.amounts.now _
+      worked = visit_turn (setting_by g.Q.Tone.Tone.algebra g.P.Plan.meaning g.Q.Quantiser.tables j) codes c.args.rank s c.args.amounts.now _
           ((lays_out j.size.rows j.size.columns (g.P.Plan.meaning j.plan) (g.met.P.Plan.lawful j.plan)).rank c.args.row c.args.column c.requires.column ∙ sym c.rank.ensures ∙ c.if-rank.false)
           (standing-fixed codes s inside c.if-codes-place.false)
           c.replay_place.ensures.worked;

@@ -17,7 +17,7 @@ write_codes-requires g c =
 pub returns-then-not-write_codes : goal.returns-then-not-write_codes
 returns-then-not-write_codes g c =
     let j = c.args.self.now in
-    reworked_not (setting_by g.Tone.Tone.algebra g.P.Plan.meaning g.Q.Quantiser.tables j) (g.P.Plan.meaning j.plan).top c.args.drawing.now c.args.saved.now c.write_codes.new.codes c.copy_from_slice.new.self
+    reworked_not (setting_by g.Q.Tone.Tone.algebra g.P.Plan.meaning g.Q.Quantiser.tables j) (g.P.Plan.meaning j.plan).top c.args.drawing.now c.args.saved.now c.write_codes.new.codes c.copy_from_slice.new.self
     (length c.args.codes.now) c.requires.codes (λ each. false≢true (c.if-not-write_codes.ensures.each.1 each))
 
 pub replay-requires : goal.replay-requires
@@ -27,7 +27,7 @@ pub returns : goal.returns
 returns g c =
     let j = c.args.self.now in
     let write = c.if-not-write_codes.ensures in
-    let s = setting_by g.Tone.Tone.algebra g.P.Plan.meaning g.Q.Quantiser.tables j in
+    let s = setting_by g.Q.Tone.Tone.algebra g.P.Plan.meaning g.Q.Quantiser.tables j in
     let top = (g.P.Plan.meaning j.plan).top in
     let stay = c.replay.ensures.stay in
     let copied = c.copy_from_slice.new.self in

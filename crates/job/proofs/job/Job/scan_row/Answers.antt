@@ -9,7 +9,7 @@ use Rattle.job.proofs.job.Job.scan_row.Goals.{then-rank, else-rank}
 
 pub loop-column-init : goal.loop-column-init
 loop-column-init g c =
-    let j = setting_by g.Tone.Tone.algebra g.P.Plan.meaning g.Q.Quantiser.tables c.args.self.now in
+    let j = setting_by g.Q.Tone.Tone.algebra g.P.Plan.meaning g.Q.Quantiser.tables c.args.self.now in
     (omega arith, sym (from_none j c.args.rank (c.args.row * c.args.self.now.size.columns) (band c.args.codes.now c.args.amounts.now)))
 
 pub visit-count-requires : goal.visit-count-requires
@@ -17,7 +17,7 @@ visit-count-requires g c =
     let job = c.args.self.now in
     let size = job.size in
     let plan = g.P.Plan.meaning job.plan in
-    let j = setting_by g.Tone.Tone.algebra g.P.Plan.meaning g.Q.Quantiser.tables job in
+    let j = setting_by g.Q.Tone.Tone.algebra g.P.Plan.meaning g.Q.Quantiser.tables job in
     let k = c.loop-column.column in
     let a = c.args.row * size.columns in
     let is = (lays_out size.rows size.columns plan (g.met.P.Plan.lawful job.plan)).rank c.args.row k c.loop-column-test.true in
@@ -35,7 +35,7 @@ loop-column-preserved g c =
     let job = c.args.self.now in
     let columns = job.size.columns in
     let plan = g.P.Plan.meaning job.plan in
-    let j = setting_by g.Tone.Tone.algebra g.P.Plan.meaning g.Q.Quantiser.tables job in
+    let j = setting_by g.Q.Tone.Tone.algebra g.P.Plan.meaning g.Q.Quantiser.tables job in
     let k = c.loop-column.column in
     let a = c.args.row * columns in
     let start = band c.args.codes.now c.args.amounts.now in

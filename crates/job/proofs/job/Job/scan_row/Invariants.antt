@@ -5,5 +5,5 @@ use Rattle.job.proofs.job.Job.scan_row.Given as goal
 
 abbrev pub invariant-loop-column : goal.invariant-loop-column
 invariant-loop-column g l =
-    let j = setting_by g.Tone.Tone.algebra g.P.Plan.meaning g.Q.Quantiser.tables l.self in
+    let j = setting_by g.Q.Tone.Tone.algebra g.P.Plan.meaning g.Q.Quantiser.tables l.self in
     (l.count ≤ l.column) × (progress l.count (band l.codes l.amounts) ≡ passed_from j l.rank (l.row * l.self.size.columns) l.column (band l.initial.codes l.initial.amounts))

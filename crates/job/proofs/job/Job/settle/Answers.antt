@@ -8,7 +8,7 @@ use Rattle.job.proofs.job.Job.settle.Goals as goal
 
 pub returns-then-codes-place : goal.returns-then-codes-place
 returns-then-codes-place g c =
-    let j = setting_by g.Tone.Tone.algebra g.P.Plan.meaning g.Q.Quantiser.tables c.args.self.now in
+    let j = setting_by g.Q.Tone.Tone.algebra g.P.Plan.meaning g.Q.Quantiser.tables c.args.self.now in
     let codes = c.args.codes.now in
     let s = c.args.place in
     let inside : s < length codes = omega arith in
@@ -17,7 +17,7 @@ returns-then-codes-place g c =
 
 pub returns-then-not-is_ready : goal.returns-then-not-is_ready
 returns-then-not-is_ready g c =
-    let j = setting_by g.Tone.Tone.algebra g.P.Plan.meaning g.Q.Quantiser.tables c.args.self.now in
+    let j = setting_by g.Q.Tone.Tone.algebra g.P.Plan.meaning g.Q.Quantiser.tables c.args.self.now in
     let codes = c.args.codes.now in
     let s = c.args.place in
     let inside : s < length codes = omega arith in
@@ -26,7 +26,7 @@ returns-then-not-is_ready g c =
 
 pub returns : goal.returns
 returns g c =
-    let j = setting_by g.Tone.Tone.algebra g.P.Plan.meaning g.Q.Quantiser.tables c.args.self.now in
+    let j = setting_by g.Q.Tone.Tone.algebra g.P.Plan.meaning g.Q.Quantiser.tables c.args.self.now in
     let codes = c.args.codes.now in
     let s = c.args.place in
     let inside : s < length codes = omega arith in

@@ -13,7 +13,7 @@ use Rattle.job.proofs.job.Job.spread.Goals.{in-Higher+else-d-pattern, in_default
 
 pub loop-d-init : goal.loop-d-init
 loop-d-init g c =
-    let tone = g.Tone.Tone.algebra in
+    let tone = g.Q.Tone.Tone.algebra in
     let squares = squares_of g.P.Plan.meaning c.args.self.now in (
       λ h. c.zero-given.ensures ∙ sym (total-none tone (shared_before tone squares c.args.place c.args.error)),
       sym (spread_none tone squares c.args.place (sends tone squares c.args.place c.args.error) c.args.amounts.now),
@@ -42,13 +42,13 @@ add-requires-in-Higher g c =
 pub returns-then-d-pattern : goal.returns-then-d-pattern
 returns-then-d-pattern g c =
     let j = c.args.self.now in
-    let tone = g.Tone.Tone.algebra in
+    let tone = g.Q.Tone.Tone.algebra in
     let plan = g.P.Plan.meaning j.plan in
     let law = g.met.P.Plan.lawful j.plan in
     let squares = squares_of g.P.Plan.meaning j in
     let s = c.args.place in
     let d = c.loop-d.d in
-    hand_last tone g.met.Tone.Tone.lawful squares s c.args.error c.args.amounts.now d (beside j.size.columns s d) c.loop-d.given c.difference.result c.loop-d.amounts c.add.new.amounts c.loop-d-test.true
+    hand_last tone g.met.Q.Tone.Tone.lawful squares s c.args.error c.args.amounts.now d (beside j.size.columns s d) c.loop-d.given c.difference.result c.loop-d.amounts c.add.new.amounts c.loop-d-test.true
     (higher_some j.size.rows j.size.columns plan law s c.requires.inside c.args.pattern.now.kinds c.requires.pattern.kinds d c.loop-d-test.true (sym c.in-Higher.ensures))
     (c.if-d-pattern.true ∙ c.requires.pattern.last)
     (λ h. c.loop-d.invariant.0 (subst (λ l. d ≤ l) (sym c.requires.pattern.last) h), c.loop-d.invariant.1)
@@ -58,8 +58,8 @@ returns-then-d-pattern g c =
 pub loop-d-preserved : goal.loop-d-preserved
 loop-d-preserved g c =
     let j = c.args.self.now in
-    let tone = g.Tone.Tone.algebra in
-    let laws = g.met.Tone.Tone.lawful in
+    let tone = g.Q.Tone.Tone.algebra in
+    let laws = g.met.Q.Tone.Tone.lawful in
     let plan = g.P.Plan.meaning j.plan in
     let law = g.met.P.Plan.lawful j.plan in
     let squares = squares_of g.P.Plan.meaning j in

@@ -13,7 +13,7 @@ use Rattle.job.proofs.job.Job.stride_row.Goals as goal
 pub loop-column-init : goal.loop-column-init
 loop-column-init g c =
     let job = c.args.self.now in
-    let tone = g.Tone.Tone.algebra in
+    let tone = g.Q.Tone.Tone.algebra in
     let zeros : ℕ → g.row.Q-Tone.Denot = λ s. tone.zero in (
       mod-eq_of_lt c.requires.lone.within,
       omega arith,
@@ -79,7 +79,7 @@ loop-column-preserved g c =
     let plan = g.P.Plan.meaning job.plan in
     let law = g.met.P.Plan.lawful job.plan in
     let q = plan.column_period in
-    let tone = g.Tone.Tone.algebra in
+    let tone = g.Q.Tone.Tone.algebra in
     let zeros : ℕ → g.row.Q-Tone.Denot = λ s. tone.zero in
     let j = setting_by tone g.P.Plan.meaning g.Q.Quantiser.tables job in
     let inv = c.loop-column.invariant in

@@ -5,7 +5,7 @@ use Rattle.job.proofs.job.Job.stride_row.Given as goal
 
 abbrev pub invariant-loop-column : goal.invariant-loop-column
 invariant-loop-column g l =
-    let j = setting_by g.Tone.Tone.algebra g.P.Plan.meaning g.Q.Quantiser.tables l.self in
+    let j = setting_by g.Q.Tone.Tone.algebra g.P.Plan.meaning g.Q.Quantiser.tables l.self in
     let q = (g.P.Plan.meaning l.self.plan).column_period in
     let columns = l.self.size.columns in
     let a = l.row * columns in

@@ -6,5 +6,5 @@ use Rattle.job.proofs.job.Job.sum_losses.Given as goal
 
 abbrev pub invariant-loop-row : goal.invariant-loop-row
 invariant-loop-row g l =
-    let a = g.Tone.Tone.algebra in
+    let a = g.Q.Tone.Tone.algebra in
     l.sum ≡ total a (loss_at a (squares_of g.P.Plan.meaning l.self) l.codes l.amounts) (l.row * l.self.size.columns)

@@ -24,13 +24,13 @@ bounds-amounts-start g c =
 
 pub loop-column-init : goal.loop-column-init
 loop-column-init g c =
-    let a = g.Tone.Tone.algebra in
+    let a = g.Q.Tone.Tone.algebra in
     let j = c.args.self.now in
     terms_all a (loss_at a (squares_of g.P.Plan.meaning j) c.args.codes.now c.args.amounts.now) (c.args.row * j.size.columns) c.args.before c.requires.before (c.args.row * j.size.columns + 0) (omega arith)
 
 pub loop-column-preserved : goal.loop-column-preserved
 loop-column-preserved g c =
-    let a = g.Tone.Tone.algebra in
+    let a = g.Q.Tone.Tone.algebra in
     let j = c.args.self.now in
     let squares = squares_of g.P.Plan.meaning j in
     let codes = c.args.codes.now in
@@ -49,12 +49,12 @@ loop-column-preserved g c =
           ∙ loss_lost a codes n inside squares c.is_lost.result c.is_lost.ensures amounts w.if-is_lost.true)
           (w.sum-is ∙ w.sum-sum.ensures)) next step
       | else-is_lost w ↦ w.sum-is ∙ terms_all a f (n + 1) c.loop-column.sum
-          (term_skipped a f n c.loop-column.sum c.loop-column.invariant g.met.Tone.Tone.lawful
+          (term_skipped a f n c.loop-column.sum c.loop-column.invariant g.met.Q.Tone.Tone.lawful
           (loss_kept a codes n inside squares c.is_lost.result c.is_lost.ensures amounts w.if-is_lost.false)) next step
     ]
 
 pub returns : goal.returns
 returns g c =
-    let a = g.Tone.Tone.algebra in
+    let a = g.Q.Tone.Tone.algebra in
     let j = c.args.self.now in
     terms_all a (loss_at a (squares_of g.P.Plan.meaning j) c.args.codes.now c.args.amounts.now) (c.args.row * j.size.columns + c.loop-column.column) c.loop-column.sum c.loop-column.invariant ((c.args.row + 1) * j.size.columns) (omega (arith, add-mul c.args.row 1 j.size.columns))

@@ -6,12 +6,12 @@ use Rattle.job.proofs.job.Job.take_all.Goals as goal
 
 pub loop-turn-init : goal.loop-turn-init
 loop-turn-init g c =
-    let j = setting_by g.Tone.Tone.algebra g.P.Plan.meaning g.Q.Quantiser.tables c.args.self.now in
+    let j = setting_by g.Q.Tone.Tone.algebra g.P.Plan.meaning g.Q.Quantiser.tables c.args.self.now in
     (omega (arith, zero-mul c.args.step), omega arith, taken_none j c.args.first c.args.step (band c.args.codes.now c.args.amounts.now))
 
 pub loop-turn-preserved : goal.loop-turn-preserved
 loop-turn-preserved g c =
-    let j = setting_by g.Tone.Tone.algebra g.P.Plan.meaning g.Q.Quantiser.tables c.args.self.now in
+    let j = setting_by g.Q.Tone.Tone.algebra g.P.Plan.meaning g.Q.Quantiser.tables c.args.self.now in
     let inv = c.loop-turn.invariant in
     let turn = c.loop-turn.turn in
     let step = c.args.step in

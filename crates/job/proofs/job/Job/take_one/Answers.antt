@@ -18,7 +18,7 @@ take_all-requires g c =
 
 pub returns : goal.returns
 returns g c =
-    let j = setting_by g.Tone.Tone.algebra g.P.Plan.meaning g.Q.Quantiser.tables c.args.self.now in
+    let j = setting_by g.Q.Tone.Tone.algebra g.P.Plan.meaning g.Q.Quantiser.tables c.args.self.now in
     record {
       few = c.take_all.ensures.few;
       after = c.take_all.ensures.after ∙ taken_one j c.args.place 1 (band c.args.codes.now c.args.amounts.now);

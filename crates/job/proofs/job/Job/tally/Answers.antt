@@ -10,7 +10,7 @@ use Rattle.job.proofs.job.Job.tally.Goals as goal
 
 pub returns : goal.returns
 returns g c =
-    let a = g.Tone.Tone.algebra in
+    let a = g.Q.Tone.Tone.algebra in
     let t = g.Q.Quantiser.tables c.args.self.now.quantiser in
     let drawing = c.args.drawing.now in
     let amounts = c.args.amounts.now in

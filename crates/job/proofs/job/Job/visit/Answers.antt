@@ -19,7 +19,7 @@ pub returns : goal.returns
 returns g c =
     let job = c.args.self.now in
     let size = job.size in
-    let j = setting_by g.Tone.Tone.algebra g.P.Plan.meaning g.Q.Quantiser.tables job in
+    let j = setting_by g.Q.Tone.Tone.algebra g.P.Plan.meaning g.Q.Quantiser.tables job in
     let s = c.args.row * size.columns + c.args.column in
     let inside : s < size.rows * size.columns = omega (arith, mul-add-lt c.args.row size.columns c.args.column size.rows c.requires.row c.requires.column, mul_comm size.rows size.columns) in
     let laws = (lays_out size.rows size.columns (g.P.Plan.meaning job.plan) (g.met.P.Plan.lawful job.plan)).laws in
