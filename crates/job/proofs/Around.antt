@@ -12,8 +12,8 @@ use Rattle.grid.specs.declared.direction.Step.TheVariants.{Back, Stay, Ahead}
 use Rattle.diffusion.specs.Drawings.{plain_drawing}
 use Rattle.diffusion.specs.Neighbourhoods.{Neighbourhood, keep, lower, higher, weights, last}
 use Rattle.diffusion.proofs.Lines.{by_eight, lays_out}
-use Rattle.diffusion.proofs.Neighbours.{lower_near, higher_near, lower-within, higher-within}
-use Rattle.job.specs.Patterns.{compared, kind_by, kind_of, kind_at, beside, behind, kind_weight, kinds_weight, kind_last, kinds_last, PatternOf, lower_place, higher_place}
+use Rattle.diffusion.proofs.Neighbours.{lower-within, higher-within}
+use Rattle.job.specs.Patterns.{compared, kind_by, kind_of, kind_at, beside, kind_weight, kinds_weight, kind_last, kinds_last, PatternOf, lower_place, higher_place}
 use Rattle.job.specs.declared.kind.Kind.{Kind}
 use Rattle.job.specs.declared.kind.Kind.TheVariants.{Neither, Lower, Higher}
 
@@ -51,32 +51,6 @@ module _ (rows columns row column : ℕ) where
   meets_both d t None b m h = let z : ◌≡◌ {A = ℕ} 0 1 = cc in absurd (omega arith)
   meets_both d t (Some r) None m h = let z : ◌≡◌ {A = ℕ} 0 1 = cc in absurd (omega arith)
   meets_both d t (Some r) (Some k) m h = let e : r * columns + k ≡ t = cc in sym (m ∙ e)
-
-  -- and it is reached without going below 0
-  abbrev Reaches : ℕ → Option ℕ → Option ℕ → Type 0
-  Reaches d None k = Unit {0}
-  Reaches d (Some r) None = Unit {0}
-  Reaches d (Some r) (Some k) = behind columns d ≤ row * columns + column
-
-  reaches : (d : ℕ) → d < 8 → Reaches d (step (plain rows) (down d) row) (step (plain columns) (across d) column)
-  reaches = by_eight (λ d. Reaches d (step (plain rows) (down d) row) (step (plain columns) (across d) column))
-      (cond_both (ltb 0 row) (Some (row - 1)) None (λ r. Reaches 0 r (Some column)) (λ e. omega (arith, above row columns (ltb-true 0 row e))) (λ _. tt))
-      (cond_both (ltb 0 row) (Some (row - 1)) None (λ r. Reaches 1 r (step (plain columns) Ahead column))
-      (λ e. cond_both (ltb (column + 1) columns) (Some (column + 1)) None (λ k. Reaches 1 (Some (row - 1)) k) (λ f. omega (arith, above row columns (ltb-true 0 row e))) (λ _. tt)) (λ _. tt))
-      (cond_both (ltb (column + 1) columns) (Some (column + 1)) None (λ k. Reaches 2 (Some row) k) (λ e. omega arith) (λ _. tt))
-      (cond_both (ltb (row + 1) rows) (Some (row + 1)) None (λ r. Reaches 3 r (step (plain columns) Ahead column))
-      (λ e. cond_both (ltb (column + 1) columns) (Some (column + 1)) None (λ k. Reaches 3 (Some (row + 1)) k) (λ f. omega arith) (λ _. tt)) (λ _. tt))
-      (cond_both (ltb (row + 1) rows) (Some (row + 1)) None (λ r. Reaches 4 r (Some column)) (λ e. omega arith) (λ _. tt))
-      (cond_both (ltb (row + 1) rows) (Some (row + 1)) None (λ r. Reaches 5 r (step (plain columns) Back column))
-      (λ e. cond_both (ltb 0 column) (Some (column - 1)) None (λ k. Reaches 5 (Some (row + 1)) k) (λ f. omega (arith, ltb-true 0 column f)) (λ _. tt)) (λ _. tt))
-      (cond_both (ltb 0 column) (Some (column - 1)) None (λ k. Reaches 6 (Some row) k) (λ e. omega (arith, ltb-true 0 column e)) (λ _. tt))
-      (cond_both (ltb 0 row) (Some (row - 1)) None (λ r. Reaches 7 r (step (plain columns) Back column))
-      (λ e. cond_both (ltb 0 column) (Some (column - 1)) None (λ k. Reaches 7 (Some (row - 1)) k) (λ f. omega (arith, above row columns (ltb-true 0 row e), ltb-true 0 column f)) (λ _. tt)) (λ _. tt))
-
-  reaches_both : (d t : ℕ) (a b : Option ℕ) → Reaches d a b → both columns a b ≡ Some t → behind columns d ≤ row * columns + column
-  reaches_both d t None b m h = let z : ◌≡◌ {A = ℕ} 0 1 = cc in absurd (omega arith)
-  reaches_both d t (Some r) None m h = let z : ◌≡◌ {A = ℕ} 0 1 = cc in absurd (omega arith)
-  reaches_both d t (Some r) (Some k) m h = m
 
   -- the neighbour of a square inside
   inner : (d : ℕ) → row < rows → column < columns
@@ -123,21 +97,6 @@ module _ (rows columns : ℕ) (plan : Ranks) (law : plans.Lawful plan) where
       meets_both rows columns row column d t (step (plain rows) (down d) row) (step (plain columns) (across d) column) (meets rows columns row column d ld)
       (sym (inner rows columns row column d (div_below s columns rows wide l) (mod_below s columns wide)) ∙ h)
       ∙ ap (λ x. beside columns x d) is
-    where
-      wide_enough : (w : ℕ) → s < rows * w → 0 < w
-      wide_enough zero k = absurd (omega (arith, mul-zero rows))
-      wide_enough (suc w) k = omega arith
-
-  -- and no further back than the square's own place allows
-  pub near_reaches : (s d t : ℕ) → s < rows * columns → d < 8 → (plain_drawing rows columns plan).near s d ≡ Some t → behind columns d ≤ s
-  near_reaches s d t l ld h =
-      let wide : 0 < columns = wide_enough columns l in
-      let row = s / columns in
-      let column = s % columns in
-      let is : row * columns + column ≡ s = div-add-mod' s columns in
-      subst (λ n. behind columns d ≤ n) is
-      (reaches_both rows columns row column d t (step (plain rows) (down d) row) (step (plain columns) (across d) column) (reaches rows columns row column d ld)
-      (sym (inner rows columns row column d (div_below s columns rows wide l) (mod_below s columns wide)) ∙ h))
     where
       wide_enough : (w : ℕ) → s < rows * w → 0 < w
       wide_enough zero k = absurd (omega (arith, mul-zero rows))
@@ -244,10 +203,3 @@ module _ (rows columns : ℕ) (plan : Ranks) (law : plans.Lawful plan) (s : ℕ)
 
   pub higher-inside : (d : ℕ) → d < 8 → get_or ks d Neither ≡ Higher → beside columns s d < rows * columns
   higher-inside d ld is = higher-within (plain_drawing rows columns plan) (lays_out rows columns plan law).laws s d (beside columns s d) inside ld (higher_some d ld is)
-
-  -- and is reached
-  pub lower_reached : (d : ℕ) → d < 8 → get_or ks d Neither ≡ Lower → behind columns d ≤ s
-  lower_reached d ld is = near_reaches rows columns plan law s d (beside columns s d) inside ld (lower_near (plain_drawing rows columns plan) s d (beside columns s d) (lower_some d ld is)).0
-
-  pub higher_reached : (d : ℕ) → d < 8 → get_or ks d Neither ≡ Higher → behind columns d ≤ s
-  higher_reached d ld is = near_reaches rows columns plan law s d (beside columns s d) inside ld (higher_near (plain_drawing rows columns plan) s d (beside columns s d) (higher_some d ld is)).0

@@ -17,8 +17,8 @@ behind xs ys k m le e =
     let at : k + (m - k) ≡ m = omega arith in
     ap (λ n. drop n xs) (sym at) ∙ sym (drop-drop (m - k) k xs) ∙ ap (drop (m - k)) e ∙ drop-drop (m - k) k ys ∙ ap (λ n. drop n ys) at
 
-behind-set : {X : Type 0} (xs ys : List X) (k : ℕ) (x : X) → drop k xs ≡ drop k ys → drop (k + 1) (set xs k x) ≡ drop (k + 1) ys
-behind-set xs ys k x e = drop-set-lt (k + 1) xs k x (omega arith) ∙ behind xs ys k (k + 1) (omega arith) e
+behind_set : {X : Type 0} (xs ys : List X) (k : ℕ) (x : X) → drop k xs ≡ drop k ys → drop (k + 1) (set xs k x) ≡ drop (k + 1) ys
+behind_set xs ys k x e = drop-set-lt (k + 1) xs k x (omega arith) ∙ behind xs ys k (k + 1) (omega arith) e
 
 module _ {T : Type 0} (tone : Algebra T) (squares : Neighbourhood) (codes : List ℕ) (amounts : List T) where
   pub listing_none : (ps : List ℕ) (es : List T) → Listing tone squares codes amounts 0 0 ps ps es es
@@ -51,11 +51,11 @@ module _ {T : Type 0} (tone : Algebra T) (squares : Neighbourhood) (codes : List
       record {
         many = count_more squares codes n k is l.many;
         places = take_more_set ps k n room ∙ ap (λ xs. xs ++ n ∷ []) l.places ∙ more;
-        places_behind = behind-set ps old_ps k n l.places_behind;
+        places_behind = behind_set ps old_ps k n l.places_behind;
         errors = take_more_set es k x room-too ∙ ap (λ xs. xs ++ x ∷ []) l.errors
             ∙ ap (λ y. map (tone_at tone amounts) (lost_below squares codes n) ++ y ∷ []) read
             ∙ sym (map_push (tone_at tone amounts) (lost_below squares codes n) n) ∙ ap (map (tone_at tone amounts)) more;
-        errors_behind = behind-set es old_es k x l.errors_behind;
+        errors_behind = behind_set es old_es k x l.errors_behind;
       }
 
   -- and one that is not

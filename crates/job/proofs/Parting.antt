@@ -96,60 +96,29 @@ module _ {T : Type 0} (tone : Algebra T) (lawful : Lawful tone) (squares : Neigh
   Handed d given amounts =
       (d ≤ last squares s 8 → given ≡ total tone (shared_before tone squares s e) d) × (amounts ≡ spread tone squares s (sends tone squares s e) d xs)
 
-  -- the share that the code works out
-  abbrev pub worked_share : ℕ → T
-  worked_share d = cond (eqb (d % 2) 0) (tone.share e 2 (weights squares s 8)) (tone.share e 1 (weights squares s 8))
+  -- the part that the code works out
+  abbrev pub worked_part : ℕ → T → T
+  worked_part d given =
+      cond (eqb d (last squares s 8)) (tone.difference e given) (cond (eqb (d % 2) 0) (tone.share e 2 (weights squares s 8)) (tone.share e 1 (weights squares s 8)))
 
   by_weight : (b : Bool) (W : ℕ) → cond b (tone.share e 2 W) (tone.share e 1 W) ≡ tone.share e (cond b 2 1) W
   by_weight true W = refl
   by_weight false W = refl
 
-  -- the shares given before a higher neighbour
-  so_far : (d t : ℕ) (given : T) (amounts : List T) → d < 8 → higher squares s d ≡ Some t → Handed d given amounts → given ≡ total tone (shared_before tone squares s e) d
-  so_far d t given amounts ld is inv = inv.0 (up_to_last squares s 8 (omega arith) d ld (ap is_some is))
+  part_right : (d t : ℕ) (given : T) → d < 8 → higher squares s d ≡ Some t → given ≡ total tone (shared_before tone squares s e) d → worked_part d given ≡ sends tone squares s e d
+  part_right d t given ld is so = elim (cases_eq d (last squares s 8)) [
+    | inl q ↦ cond-true (eqb d (last squares s 8)) _ _ (eq-eqb d (last squares s 8) q) ∙ ap (tone.difference e) so ∙ sym (sends-last tone lawful squares s e d ld q)
+    | inr ne ↦ cond-false (eqb d (last squares s 8)) _ _ (ne_eqb d (last squares s 8) ne) ∙ by_weight (eqb (d % 2) 0) (weights squares s 8) ∙ sym (sends_share tone lawful squares s e d (ap is_some is) ne)
+  ]
 
-  -- one part more in the amounts
-  part_more : (d t : ℕ) (part : T) (amounts amounts' : List T) → higher squares s d ≡ Some t → amounts ≡ spread tone squares s (sends tone squares s e) d xs → part ≡ sends tone squares s e d
-      → amounts' ≡ set amounts t (tone.sum (get_or amounts t tone.zero) part) → amounts' ≡ spread tone squares s (sends tone squares s e) (d + 1) xs
-  part_more d t part amounts amounts' is so right amounts-is =
-      amounts-is ∙ ap₂ (λ ys p. set ys t (tone.sum (get_or ys t tone.zero) p)) so right ∙ sym (spread-higher tone squares s (sends tone squares s e) xs d t is)
-
-  -- a share for a higher neighbour that is not the last
-  pub hand_share : (d t : ℕ) (given part given' : T) (amounts amounts' : List T) → d < 8 → higher squares s d ≡ Some t → (d ≡ last squares s 8 → ⊥) → Handed d given amounts
-      → part ≡ worked_share d → given' ≡ tone.sum given part → amounts' ≡ set amounts t (tone.sum (get_or amounts t tone.zero) part) → Handed (d + 1) given' amounts'
-  hand_share d t given part given' amounts amounts' ld is ne inv part-is given_is amounts-is =
-      let right : part ≡ sends tone squares s e d = part-is ∙ by_weight (eqb (d % 2) 0) (weights squares s 8) ∙ sym (sends_share tone lawful squares s e d (ap is_some is) ne) in (
-        λ more. given_is ∙ ap₂ tone.sum (so_far d t given amounts ld is inv) (right ∙ sends_share tone lawful squares s e d (ap is_some is) ne) ∙ sym (before_share tone lawful squares s e d (ap is_some is) ne),
-        part_more d t part amounts amounts' is inv.1 right amounts-is,
+  pub hand_higher : (d t : ℕ) (given part given' : T) (amounts amounts' : List T) → d < 8 → higher squares s d ≡ Some t → Handed d given amounts
+      → part ≡ worked_part d given → given' ≡ tone.sum given part → amounts' ≡ set amounts t (tone.sum (get_or amounts t tone.zero) part) → Handed (d + 1) given' amounts'
+  hand_higher d t given part given' amounts amounts' ld is inv part-is given_is amounts-is =
+      let so : given ≡ total tone (shared_before tone squares s e) d = inv.0 (up_to_last squares s 8 (omega arith) d ld (ap is_some is)) in
+      let right : part ≡ sends tone squares s e d = part-is ∙ part_right d t given ld is so in (
+        λ more. given_is ∙ ap₂ tone.sum so (right ∙ sends_share tone lawful squares s e d (ap is_some is) (λ q. omega arith)) ∙ sym (before_share tone lawful squares s e d (ap is_some is) (λ q. omega arith)),
+        amounts-is ∙ ap₂ (λ ys p. set ys t (tone.sum (get_or ys t tone.zero) p)) inv.1 right ∙ sym (spread-higher tone squares s (sends tone squares s e) xs d t is),
       )
-
-  -- behind the last there is no higher neighbour
-  none_of : (o : Option ℕ) → (is_some o ≡ true → ⊥) → o ≡ None
-  none_of None h = refl
-  none_of (Some t) h = absurd (h refl)
-
-  spread-behind : (k : ℕ) → last squares s 8 + 1 + k ≤ 8 → spread tone squares s (sends tone squares s e) (last squares s 8 + 1 + k) xs ≡ spread tone squares s (sends tone squares s e) (last squares s 8 + 1) xs
-  spread-behind ℕ.zero h =
-      let same : last squares s 8 + 1 + 0 ≡ last squares s 8 + 1 = omega arith in
-      ap (λ n. spread tone squares s (sends tone squares s e) n xs) same
-  spread-behind (suc k) h =
-      let d = last squares s 8 + 1 + k in
-      let next : last squares s 8 + 1 + suc k ≡ last squares s 8 + 1 + k + 1 = omega arith in
-      ap (λ n. spread tone squares s (sends tone squares s e) n xs) next
-      ∙ spread_other tone squares s (sends tone squares s e) xs d (none_of (higher squares s d) (λ is. omega (arith, up_to_last squares s 8 (omega arith) d (omega arith) is)))
-      ∙ spread-behind k (omega arith)
-
-  -- what the others leave, for the last
-  pub hand_last : (d t : ℕ) (given part : T) (amounts amounts' : List T) → d < 8 → higher squares s d ≡ Some t → d ≡ last squares s 8 → Handed d given amounts
-      → part ≡ tone.difference e given → amounts' ≡ set amounts t (tone.sum (get_or amounts t tone.zero) part) → amounts' ≡ spread tone squares s (sends tone squares s e) 8 xs
-  hand_last d t given part amounts amounts' ld is q inv part-is amounts-is =
-      let right : part ≡ sends tone squares s e d = part-is ∙ ap (tone.difference e) (so_far d t given amounts ld is inv) ∙ sym (sends-last tone lawful squares s e d ld q) in
-      let here : d + 1 ≡ last squares s 8 + 1 = omega arith in
-      let all : last squares s 8 + 1 + (7 - d) ≡ 8 = omega arith in
-      part_more d t part amounts amounts' is inv.1 right amounts-is
-      ∙ ap (λ n. spread tone squares s (sends tone squares s e) n xs) here
-      ∙ sym (spread-behind (7 - d) (omega arith))
-      ∙ ap (λ n. spread tone squares s (sends tone squares s e) n xs) all
 
   pub hand_other : (d : ℕ) (given : T) (amounts : List T) → higher squares s d ≡ None → Handed d given amounts → Handed (d + 1) given amounts
   hand_other d given amounts is inv = (

@@ -1,6 +1,6 @@
 -- A row in steps of a whole column period: the columns between have other ranks, and inner squares have the same pattern.
-use Rattle.std.proofs.Common.{◌≡◌, ℕ, zero, suc, ◌+◌, ◌-◌, ◌*◌, ◌/◌, ◌%◌, ◌<◌, ◌≤◌, ltb, List, get_or, Some, None, Option, sym, refl, ap, ◌∙◌, subst, ap₂, inl, inr, add-zero, add_assoc, mul-le-mul_right, mod-eq_of_lt, suc-mul, mul_comm, add-mul, one-mul, zero-mul, div-le_self, le-mul_of_pos_right, div-mul-le_self, arith}
-use native.Mathlib.Nat.{mod-add-mod, mod-eq-sub-mod, add-mod_right, add-mul-mod_self_right}
+use Rattle.std.proofs.Common.{◌≡◌, ℕ, ◌+◌, ◌-◌, ◌*◌, ◌%◌, ◌<◌, ◌≤◌, ltb, List, get_or, Some, sym, refl, ap, ◌∙◌, subst, ap₂, inl, inr, mod-eq_of_lt, mul_comm, arith}
+use native.Mathlib.Nat.{mod-add-mod, mod-eq-sub-mod, add-mod_right}
 use Rattle.std.proofs.lemmas.Nat.{mul-add-lt, mod_below}
 use Rattle.std.proofs.lemmas.Bool.{cond-true, lt-ltb, cases_lt, cases_order}
 use Rattle.tone.specs.Algebra.{Algebra}
@@ -14,16 +14,16 @@ use Rattle.grid.specs.declared.direction.Step.TheVariants.{Back, Stay, Ahead}
 use Rattle.diffusion.specs.Bands.{Bands}
 use Rattle.diffusion.specs.Draft.{Setting}
 use Rattle.diffusion.specs.Drawings.{plain_drawing, setting_of}
+use Rattle.diffusion.specs.Neighbourhoods.{Neighbourhood}
 use Rattle.diffusion.proofs.Lines.{lays_out}
 use Rattle.job.specs.Patterns.{compared, kind_of, kind_at, PatternOf}
-use Rattle.job.specs.Periods.{First, Lone, Inner, Alike}
-use Rattle.job.specs.Progress.{progress, taken, taken_from, visited, passed_from, LowerStand}
+use Rattle.job.specs.Periods.{First, Lone, Inner}
+use Rattle.job.specs.Progress.{progress, visited, passed_from}
 use Rattle.job.specs.declared.kind.Kind.{Kind}
 use Rattle.job.specs.declared.kind.Kind.TheVariants.{Neither}
+use Rattle.job.specs.declared.pattern.Pattern.{Pattern}
 use Rattle.job.proofs.Around.{kind_here, pattern_told}
-use Rattle.job.proofs.Lower.{at_rank, lower_from}
 use Rattle.job.proofs.Passes.{from_none, from_more, from_quiet}
-use Rattle.job.proofs.Taking.{taken_visits}
 
 -- columns less than a period apart differ modulo the period
 differ : (q a c : ℕ) → 1 ≤ q → a < c → c < a + q → c % q ≡ a % q → ⊥
@@ -116,73 +116,44 @@ module _ (plan : Ranks) (law : plans.Lawful plan) where
 pub next_modulo : (q row phase next : ℕ) → phase ≡ row % q → next ≡ (phase + 1) % q → next ≡ (row + 1) % q
 next_modulo q row phase next is to = to ∙ ap (λ n. (n + 1) % q) is ∙ mod-add-mod row q 1
 
--- beside columns with the same ranks, in a row above, in the same or below, if there is one
-kind_same : (plan : Ranks) (own own' x y : ℕ) (r : Option ℕ) → own ≡ own' → ((row : ℕ) → plan.rank row x ≡ plan.rank row y) → kind_at plan own r (Some x) ≡ kind_at plan own' r (Some y)
-kind_same plan own own' x y None e same = refl
-kind_same plan own own' x y (Some r) e same = ap₂ compared e (same r)
-
-module _ (rows columns : ℕ) (plan : Ranks) (law : plans.Lawful plan) (row from to : ℕ) (inside : row < rows) (at : Inner columns from to) (on : from ≤ to)
+module _ (rows columns : ℕ) (plan : Ranks) (law : plans.Lawful plan) (row from to : ℕ) (at : Inner rows columns row from to) (on : from ≤ to)
     (periods : to % plan.column_period ≡ from % plan.column_period) where
   same_kind : (d : ℕ) → kind_of (plain_drawing rows columns plan) (row * columns + from) d ≡ kind_of (plain_drawing rows columns plan) (row * columns + to) d
   same_kind d =
+      let above = at.above in
+      let below = at.below in
       let before = at.before in
       let behind = at.behind in
-      let upward = step (plain rows) (down d) row in
+      let r = stepped (down d) row in
+      let inside : row < rows = omega arith in
+      let upward = step_inner rows (down d) row above below in
       let own : plan.rank row from ≡ plan.rank row to = same_rank plan law row from to (sym periods) in
-      let other : (r : ℕ) → plan.rank r (stepped (across d) from) ≡ plan.rank r (stepped (across d) to)
-      = λ r. same_rank plan law r (stepped (across d) from) (stepped (across d) to)
+      let other : plan.rank r (stepped (across d) from) ≡ plan.rank r (stepped (across d) to)
+      = same_rank plan law r (stepped (across d) from) (stepped (across d) to)
       (stepped_modulo plan.column_period (across d) from to (some plan law) before (omega arith) (sym periods)) in
       kind_here rows columns plan law row from d inside (omega arith)
-      ∙ ap (kind_at plan (plan.rank row from) upward) (step_inner columns (across d) from before (omega arith))
-      ∙ kind_same plan (plan.rank row from) (plan.rank row to) (stepped (across d) from) (stepped (across d) to) upward own other
+      ∙ ap₂ (kind_at plan (plan.rank row from)) upward (step_inner columns (across d) from before (omega arith))
+      ∙ ap₂ compared own other
       ∙ sym (kind_here rows columns plan law row to d inside (omega arith)
-      ∙ ap (kind_at plan (plan.rank row to) upward) (step_inner columns (across d) to (omega arith) behind))
+      ∙ ap₂ (kind_at plan (plan.rank row to)) upward (step_inner columns (across d) to (omega arith) behind))
 
   -- inner squares of a row that lie whole periods apart have the same pattern
   pub same_pattern : (ks : List Kind) (w l : ℕ) → PatternOf (plain_drawing rows columns plan) (row * columns + from) ks w l
       → PatternOf (plain_drawing rows columns plan) (row * columns + to) ks w l
   same_pattern ks w l known =
+      let below = at.below in
       let behind = at.behind in
-      let within : (c : ℕ) → c < columns → row * columns + c < rows * columns
-      = λ c lc. let m = mul-add-lt row columns c rows inside lc in omega (arith, mul_comm rows columns) in
+      let inside : (c : ℕ) → c < columns → row * columns + c < rows * columns
+      = λ c lc. let m = mul-add-lt row columns c rows (omega arith) lc in omega (arith, mul_comm rows columns) in
       let kinds : (d : ℕ) → d < 8 → get_or ks d Neither ≡ kind_of (plain_drawing rows columns plan) (row * columns + to) d = λ d ld. known.kinds d ld ∙ same_kind d in
-      let here = pattern_told rows columns plan law (row * columns + from) (within from (omega arith)) ks known.kinds in
-      let there = pattern_told rows columns plan law (row * columns + to) (within to (omega arith)) ks kinds in
+      let here = pattern_told rows columns plan law (row * columns + from) (inside from (omega arith)) ks known.kinds in
+      let there = pattern_told rows columns plan law (row * columns + to) (inside to (omega arith)) ks kinds in
       record { kinds = kinds; weights = known.weights ∙ sym here.weights ∙ there.weights; last = known.last ∙ sym here.last ∙ there.last }
 
--- so many columns of a row that are alike, a period apart
-module _ (columns column period : ℕ) (some : 1 ≤ period) where
-  pub alike_more : (count : ℕ) → 1 ≤ column → column + 1 < columns → count ≡ (columns - 2 - column) / period + 1 → Alike columns column period count
-  alike_more count before behind is =
-      let space = columns - 2 - column in
-      let reach : (k : ℕ) → k < count → k * period ≤ space
-      = λ k l. let far = mul-le-mul_right {m = k} {n = space / period} period (omega (arith, is, l)) in omega (arith, far, div-mul-le_self space period) in
-      record {
-        some = omega (arith, is);
-        few = omega (arith, is, div-le_self space period);
-        within = λ k l. omega (arith, reach k l);
-        inner = λ k l m. record { before = before; behind = omega (arith, reach k l) };
-      }
-
-  module _ (count : ℕ) (at : Alike columns column period count) where
-    -- the last of them lies inside
-    last_within : column + (count - 1) * period < columns
-    last_within = let least = at.some in at.within (count - 1) (omega arith)
-
-    whole : (count - 1) * period + period ≡ count * period
-    whole =
-        let least = at.some in
-        let next : count - 1 + 1 ≡ count = omega arith in
-        sym (add-mul (count - 1) 1 period ∙ ap (λ n. (count - 1) * period + n) (one-mul period)) ∙ ap (λ n. n * period) next
-
-    pub alike_room : column + count ≤ columns
-    alike_room = omega (arith, last_within, at.some, le-mul_of_pos_right {m = period} (count - 1) some)
-
-    pub alike_end : column + count * period < columns + period
-    alike_end = omega (arith, last_within, whole)
-
-    pub alike_on : count ≤ count * period
-    alike_on = le-mul_of_pos_right {m = period} count some
+-- the pattern of a place, by equal terms for both
+pub same_place : (squares : Neighbourhood) (s t : ℕ) (p r : Pattern) → t ≡ s → r ≡ p → PatternOf squares s p.kinds p.weights p.last → PatternOf squares t r.kinds r.weights r.last
+same_place squares s t p r place pattern known =
+    subst (λ k. PatternOf squares k r.kinds r.weights r.last) (sym place) (subst (λ (x : Pattern). PatternOf squares s x.kinds x.weights x.last) (sym pattern) known)
 
 module _ {T : Type 0} (tone : Algebra T) (rows columns : ℕ) (plan : Ranks) (law : plans.Lawful plan) (tables : Tables T) (drawing : ℕ → T) (rank row : ℕ) (start : Bands T) where
   abbrev setting : Setting T
@@ -232,36 +203,3 @@ module _ {T : Type 0} (tone : Algebra T) (rows columns : ℕ) (plan : Ranks) (la
         from_quiet setting rank a (column + 1) (n - (column + 1)) (count + more) start after one
         (λ m from to is. differ q column m least (omega arith) (omega arith) (at.only m (sym (place_rank m (omega arith)) ∙ is) ∙ sym on))
         ∙ ap (λ k. passed_from setting rank a k start) whole
-
-    -- n steps at once, of squares that are taken as they are open
-    pub stride_run : (column n count : ℕ) (before : Bands T) → LowerStand (plain_drawing rows columns plan) rank start.codes → row < rows → column % plan.column_period ≡ first
-        → ((k : ℕ) → k < n → column + k * plan.column_period < columns) → Strided column count before
-        → Strided (column + n * plan.column_period) (count + (taken_from setting (row * columns + column) plan.column_period n before).count)
-        (taken_from setting (row * columns + column) plan.column_period n before).bands
-    unfolding taken_from
-    stride_run column zero count before lower inside on within so =
-        let q = plan.column_period in
-        subst (λ c. Strided c (count + 0) before) (sym (ap (λ n. column + n) (zero-mul q) ∙ add-zero column)) (subst (λ c. Strided column c before) (sym (add-zero count)) so)
-    stride_run column (suc n) count before lower inside on within so =
-        let q = plan.column_period in
-        let least : 1 ≤ q = some plan law in
-        let a = row * columns in
-        let here = column + n * q in
-        let t = taken_from setting (a + column) q n before in
-        let were = stride_run column n count before lower inside on (λ k l. within k (omega arith)) so in
-        let within-here : here < columns = within n (omega arith) in
-        let at_place : a + column + n * q ≡ a + here = add_assoc a column (n * q) in
-        let turned : here % q ≡ first = add-mul-mod_self_right column n q ∙ on in
-        let own : (plain_drawing rows columns plan).rank (a + here) ≡ rank
-        = place_rank here within-here ∙ same_rank plan law row here first (turned ∙ sym (mod-eq_of_lt at.within)) ∙ at.has in
-        let placed : a + here < rows * columns = omega (arith, mul-add-lt row columns here rows inside within-here, mul_comm rows columns) in
-        let stands : LowerStand (plain_drawing rows columns plan) rank t.bands.codes
-        = lower_from setting rank a here (count + t.count) start t.bands (were here (omega arith) (omega arith) (omega arith)) lower in
-        let did : taken setting (a + here) t.bands ≡ visited setting ((plain_drawing rows columns plan).rank (a + here)) (a + here) t.bands
-        = taken_visits setting (a + here) t.bands (lays_out rows columns plan law).laws placed (at_rank (plain_drawing rows columns plan) t.bands.codes _ rank own stands) in
-        let u = taken setting (a + here) t.bands in
-        let more = stride_more here (count + t.count) u.count t.bands u.bands within-here turned were did in
-        let next : here + q ≡ column + suc n * q = add_assoc column (n * q) q ∙ ap (λ m. column + m) (sym (suc-mul n q)) in
-        subst (λ c. Strided c (count + (t.count + (taken setting (a + column + n * q) t.bands).count)) (taken setting (a + column + n * q) t.bands).bands) next
-        (subst (λ p. Strided (here + q) (count + (t.count + (taken setting p t.bands).count)) (taken setting p t.bands).bands) (sym at_place)
-        (subst (λ c. Strided (here + q) c u.bands) (add_assoc count t.count u.count) more))

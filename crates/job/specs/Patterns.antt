@@ -29,10 +29,6 @@ abbrev pub beside : ℕ → ℕ → ℕ → ℕ
 beside columns s d =
     slice_index ((s - columns) ∷ (s - columns + 1) ∷ (s + 1) ∷ (s + columns + 1) ∷ (s + columns) ∷ (s + columns - 1) ∷ (s - 1) ∷ (s - (columns + 1)) ∷ []) d
 
--- how far the place beside s lies before s, at the most
-abbrev pub behind : ℕ → ℕ → ℕ
-behind columns d = slice_index (columns ∷ columns ∷ 0 ∷ 0 ∷ 0 ∷ 1 ∷ 1 ∷ (columns + 1) ∷ []) d
-
 -- the weight of a direction with a higher neighbour; 0 for another
 abbrev pub kind_weight : Kind → ℕ → ℕ
 kind_weight Neither d = 0

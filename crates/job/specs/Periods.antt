@@ -1,5 +1,5 @@
 -- The columns of a row that have a rank. They repeat with the plan's column period.
-use Rattle.std.specs.Prelude.{◌≡◌, ℕ, ◌+◌, ◌*◌, ◌%◌, ◌<◌, ◌≤◌, ◌≢◌}
+use Rattle.std.specs.Prelude.{◌≡◌, ℕ, ◌+◌, ◌%◌, ◌<◌, ◌≤◌, ◌≢◌}
 use Rattle.plan.specs.Ranks.{Ranks}
 
 -- the first column of a row with a rank, in a drawing with so many columns; a number that is no column where none has it
@@ -14,14 +14,9 @@ pub record Lone (plan : Ranks) (rank row first : ℕ) : Type 0 where
   pub has : plan.rank row first ≡ rank
   pub only : (column : ℕ) → plan.rank row column ≡ rank → column % plan.column_period ≡ first
 
--- the columns from one to another lie at neither end of a row
-pub record Inner (columns from to : ℕ) : Type 0 where
+-- the squares of a row from one column to another touch no edge
+pub record Inner (rows columns row from to : ℕ) : Type 0 where
+  pub above : 1 ≤ row
+  pub below : row + 1 < rows
   pub before : 1 ≤ from
   pub behind : to + 1 < columns
-
--- so many columns, from one on and a period apart, lie inside, and if they are more than one, at neither end
-pub record Alike (columns from period count : ℕ) : Type 0 where
-  pub some : 1 ≤ count
-  pub few : count ≤ columns
-  pub within : (k : ℕ) → k < count → from + k * period < columns
-  pub inner : (k : ℕ) → k < count → 1 ≤ k → Inner columns from (from + k * period)

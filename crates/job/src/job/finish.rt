@@ -4,13 +4,17 @@ ghost use Rattle.model.specs.Calls.{told};
 ghost use Rattle.model.specs.Steps.{finish_on};
 ghost use Rattle.job.specs.Answers.{counted};
 ghost use Rattle.job.specs.Meaning.{squares_of, meant, setting_by, band};
-ghost use Rattle.job.specs.Periods.{First, Lone, Alike};
+ghost use Rattle.job.specs.Patterns.{PatternOf};
+ghost use Rattle.job.specs.Periods.{First, Lone, Inner};
 ghost use Rattle.job.specs.Progress.{progress, visited, passed_from, passed_below, swept_below, LowerStand};
 
 use crate::job::Job;
+use crate::job::spread::OPEN;
+use crate::pattern::Pattern;
 use plan::Plan;
 use quantiser::Quantiser;
 use refusal::Refusal;
+use tone::Tone;
 
 // The number after a phase of a period: rows are counted by it without a division.
 fn next_phase(phase: usize, period: usize) -> usize
@@ -22,19 +26,33 @@ fn next_phase(phase: usize, period: usize) -> usize
 }
 
 impl<P: Plan, Q: Quantiser> Job<P, Q> {
-    // Fixes the square at a row and a column if it is open, and answers how many were fixed: 1 or 0. The squares of lower rank are fixed, so
-    // that none has to be asked.
-    fn visit(&self, amounts: &mut [Q::Tone], codes: &mut [u8], row: usize, column: usize) -> usize
-        requires row { row < self.now.size.rows }
-        requires column { column < self.now.size.columns }
-        requires lower { LowerStand (squares_of P.Plan.meaning self.now) ((squares_of P.Plan.meaning self.now).rank (row * self.now.size.columns + column)) codes.old }
+    // Fixes the square at a place, whose pattern is told, if it is open, and answers how many were fixed: 1 or 0. The squares of lower rank are
+    // fixed, so that none has to be asked.
+    fn visit(
+        &self,
+        amounts: &mut [Q::Tone],
+        codes: &mut [u8],
+        place: usize,
+        pattern: &Pattern,
+    ) -> usize
+        requires inside { place < self.now.size.rows * self.now.size.columns }
+        requires lower { LowerStand (squares_of P.Plan.meaning self.now) ((squares_of P.Plan.meaning self.now).rank place) codes.old }
         requires amounts { length amounts.old ≡ self.now.size.rows * self.now.size.columns }
         requires codes { length codes.old ≡ self.now.size.rows * self.now.size.columns }
+        requires pattern { PatternOf (squares_of P.Plan.meaning self.now) place pattern.now.kinds pattern.now.weights pattern.now.last }
         ensures few { result ≤ 1 }
-        ensures after { progress result (band codes.new amounts.new) ≡ visited (setting_by Q.Tone.Tone.algebra P.Plan.meaning Q.Quantiser.tables self.now) ((squares_of P.Plan.meaning self.now).rank (row * self.now.size.columns + column)) (row * self.now.size.columns + column) (band codes.old amounts.old) }
+        ensures after { progress result (band codes.new amounts.new) ≡ visited (setting_by Q.Tone.Tone.algebra P.Plan.meaning Q.Quantiser.tables self.now) ((squares_of P.Plan.meaning self.now).rank place) place (band codes.old amounts.old) }
     {
-        let pattern = self.pattern(row, column);
-        self.take_one(amounts, codes, row * self.size.columns + column, &pattern)
+        if codes[place] != OPEN {
+            return 0;
+        }
+        let amount = amounts[place];
+        let code = self.quantiser.choose(amount);
+        let error = amount.difference(self.quantiser.output(code));
+        codes[place] = code;
+        amounts[place] = error;
+        self.spread(amounts, place, pattern, error);
+        1
     }
 
     // Fixes the ready squares of one rank in a row, column by column, and answers how many.
@@ -46,10 +64,12 @@ impl<P: Plan, Q: Quantiser> Job<P, Q> {
         ensures few { result ≤ self.now.size.columns }
         ensures after { progress result (band codes.new amounts.new) ≡ passed_from (setting_by Q.Tone.Tone.algebra P.Plan.meaning Q.Quantiser.tables self.now) rank (row * self.now.size.columns) self.now.size.columns (band codes.old amounts.old) }
     {
+        let start = row * self.size.columns;
         let mut count = 0;
         for column in 0..self.size.columns {
             if self.plan.rank(row, column) == rank {
-                count += self.visit(amounts, codes, row, column);
+                let pattern = self.pattern(row, column);
+                count += self.visit(amounts, codes, start + column, &pattern);
             }
         }
         count
@@ -93,19 +113,16 @@ impl<P: Plan, Q: Quantiser> Job<P, Q> {
         true
     }
 
-    // How many squares of a row, from a column on and a period apart, surely have one pattern: those up to the last column, or one at either end.
-    fn alike(&self, column: usize, period: usize) -> usize
-        requires column { column < self.now.size.columns }
-        requires period { 1 ≤ period }
-        ensures { Alike self.now.size.columns column period result }
+    // Whether the squares of a row from one column to another touch no edge.
+    fn is_inner(&self, row: usize, from: usize, to: usize) -> bool
+        requires row { row < self.now.size.rows }
+        requires to { to < self.now.size.columns }
+        ensures { result ≡ true → Inner self.now.size.rows self.now.size.columns row from to }
     {
-        if column == 0 || column + 1 >= self.size.columns {
-            return 1;
-        }
-        (self.size.columns - 2 - column) / period + 1
+        0 < row && row + 1 < self.size.rows && 0 < from && to + 1 < self.size.columns
     }
 
-    // Fixes the ready squares of a row whole periods from a column, and answers how many. Those with one pattern are taken together.
+    // Fixes the ready squares of a row whole periods from a column, and answers how many. Inner ones have one pattern, which is gathered once.
     fn stride_row(
         &self,
         amounts: &mut [Q::Tone],
@@ -127,11 +144,15 @@ impl<P: Plan, Q: Quantiser> Job<P, Q> {
         let period = self.plan.column_period();
         let mut count = 0;
         let mut column = first;
+        let mut known = first;
+        let mut pattern = self.pattern(row, first);
         while column < self.size.columns {
-            let squares = self.alike(column, period);
-            let pattern = self.pattern(row, column);
-            count += self.take_all(amounts, codes, start + column, period, squares, &pattern);
-            column += squares * period;
+            if !self.is_inner(row, known, column) {
+                known = column;
+                pattern = self.pattern(row, column);
+            }
+            count += self.visit(amounts, codes, start + column, &pattern);
+            column += period;
         }
         count
     }

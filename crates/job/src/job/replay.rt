@@ -10,36 +10,39 @@ use crate::job::spread::OPEN;
 use crate::pattern::Pattern;
 use plan::Plan;
 use quantiser::Quantiser;
+use tone::Tone;
 
 impl<P: Plan, Q: Quantiser> Job<P, Q> {
-    // Works the square at a place, whose pattern is told, and tells whether the code written there is the one that is chosen. The codes stay.
+    // Works the square at a place, whose pattern is told; false, and nothing changed, where another code is chosen than the one written.
     fn replay_place(
         &self,
         amounts: &mut [Q::Tone],
-        codes: &mut [u8],
+        codes: &[u8],
         place: usize,
         pattern: &Pattern,
     ) -> bool
         requires inside { place < self.now.size.rows * self.now.size.columns }
         requires amounts { length amounts.old ≡ self.now.size.rows * self.now.size.columns }
-        requires codes { length codes.old ≡ self.now.size.rows * self.now.size.columns }
+        requires codes { length codes.now ≡ self.now.size.rows * self.now.size.columns }
         requires pattern { PatternOf (squares_of P.Plan.meaning self.now) place pattern.now.kinds pattern.now.weights pattern.now.last }
-        ensures stay { codes.new ≡ codes.old }
-        ensures worked { kept_if result amounts.new ≡ replay_at (setting_by Q.Tone.Tone.algebra P.Plan.meaning Q.Quantiser.tables self.now) codes.old place amounts.old }
+        ensures { kept_if result amounts.new ≡ replay_at (setting_by Q.Tone.Tone.algebra P.Plan.meaning Q.Quantiser.tables self.now) codes.now place amounts.old }
     {
-        let written = codes[place];
-        codes[place] = OPEN;
-        let _ = self.take_one(amounts, codes, place, pattern);
-        let chosen = codes[place];
-        codes[place] = written;
-        chosen == written
+        let amount = amounts[place];
+        let code = self.quantiser.choose(amount);
+        if code != codes[place] {
+            return false;
+        }
+        let error = amount.difference(self.quantiser.output(code));
+        amounts[place] = error;
+        self.spread(amounts, place, pattern, error);
+        true
     }
 
     // Works the square at a row and a column if it stands and has the rank whose turn it is.
     fn replay_square(
         &self,
         amounts: &mut [Q::Tone],
-        codes: &mut [u8],
+        codes: &[u8],
         row: usize,
         column: usize,
         rank: u8,
@@ -47,9 +50,8 @@ impl<P: Plan, Q: Quantiser> Job<P, Q> {
         requires row { row < self.now.size.rows }
         requires column { column < self.now.size.columns }
         requires amounts { length amounts.old ≡ self.now.size.rows * self.now.size.columns }
-        requires codes { length codes.old ≡ self.now.size.rows * self.now.size.columns }
-        ensures stay { codes.new ≡ codes.old }
-        ensures worked { kept_if result amounts.new ≡ replay_visit (setting_by Q.Tone.Tone.algebra P.Plan.meaning Q.Quantiser.tables self.now) codes.old rank (row * self.now.size.columns + column) (kept_if true amounts.old) }
+        requires codes { length codes.now ≡ self.now.size.rows * self.now.size.columns }
+        ensures { kept_if result amounts.new ≡ replay_visit (setting_by Q.Tone.Tone.algebra P.Plan.meaning Q.Quantiser.tables self.now) codes.now rank (row * self.now.size.columns + column) (kept_if true amounts.old) }
     {
         let place = row * self.size.columns + column;
         if codes[place] == OPEN {
@@ -63,12 +65,11 @@ impl<P: Plan, Q: Quantiser> Job<P, Q> {
     }
 
     // Works the squares of a rank in one row.
-    fn replay_row(&self, amounts: &mut [Q::Tone], codes: &mut [u8], row: usize, rank: u8) -> bool
+    fn replay_row(&self, amounts: &mut [Q::Tone], codes: &[u8], row: usize, rank: u8) -> bool
         requires row { row < self.now.size.rows }
         requires amounts { length amounts.old ≡ self.now.size.rows * self.now.size.columns }
-        requires codes { length codes.old ≡ self.now.size.rows * self.now.size.columns }
-        ensures stay { codes.new ≡ codes.old }
-        ensures worked { RowWorked (setting_by Q.Tone.Tone.algebra P.Plan.meaning Q.Quantiser.tables self.now) codes.old rank (row * self.now.size.columns) ((row + 1) * self.now.size.columns) amounts.old (kept_if result amounts.new) }
+        requires codes { length codes.now ≡ self.now.size.rows * self.now.size.columns }
+        ensures { RowWorked (setting_by Q.Tone.Tone.algebra P.Plan.meaning Q.Quantiser.tables self.now) codes.now rank (row * self.now.size.columns) ((row + 1) * self.now.size.columns) amounts.old (kept_if result amounts.new) }
     {
         for column in 0..self.size.columns {
             if !self.replay_square(amounts, codes, row, column, rank) {
@@ -79,11 +80,10 @@ impl<P: Plan, Q: Quantiser> Job<P, Q> {
     }
 
     // Works the squares of a rank.
-    fn replay_rank(&self, amounts: &mut [Q::Tone], codes: &mut [u8], rank: u8) -> bool
+    fn replay_rank(&self, amounts: &mut [Q::Tone], codes: &[u8], rank: u8) -> bool
         requires amounts { length amounts.old ≡ self.now.size.rows * self.now.size.columns }
-        requires codes { length codes.old ≡ self.now.size.rows * self.now.size.columns }
-        ensures stay { codes.new ≡ codes.old }
-        ensures worked { kept_if result amounts.new ≡ replay_sweep (setting_by Q.Tone.Tone.algebra P.Plan.meaning Q.Quantiser.tables self.now) codes.old rank (kept_if true amounts.old) (self.now.size.rows * self.now.size.columns) }
+        requires codes { length codes.now ≡ self.now.size.rows * self.now.size.columns }
+        ensures { kept_if result amounts.new ≡ replay_sweep (setting_by Q.Tone.Tone.algebra P.Plan.meaning Q.Quantiser.tables self.now) codes.now rank (kept_if true amounts.old) (self.now.size.rows * self.now.size.columns) }
     {
         for row in 0..self.size.rows {
             if !self.replay_row(amounts, codes, row, rank) {
@@ -94,11 +94,10 @@ impl<P: Plan, Q: Quantiser> Job<P, Q> {
     }
 
     // Works all squares that stand; false at the first code that is not the one written, and the amounts are then of no use.
-    pub(crate) fn replay(&self, amounts: &mut [Q::Tone], codes: &mut [u8]) -> bool
+    pub(crate) fn replay(&self, amounts: &mut [Q::Tone], codes: &[u8]) -> bool
         requires amounts { length amounts.old ≡ self.now.size.rows * self.now.size.columns }
-        requires codes { length codes.old ≡ self.now.size.rows * self.now.size.columns }
-        ensures stay { codes.new ≡ codes.old }
-        ensures worked { kept_if result amounts.new ≡ replay (setting_by Q.Tone.Tone.algebra P.Plan.meaning Q.Quantiser.tables self.now) codes.old (kept_if true amounts.old) (suc (P.Plan.meaning self.now.plan).top) }
+        requires codes { length codes.now ≡ self.now.size.rows * self.now.size.columns }
+        ensures { kept_if result amounts.new ≡ replay (setting_by Q.Tone.Tone.algebra P.Plan.meaning Q.Quantiser.tables self.now) codes.now (kept_if true amounts.old) (suc (P.Plan.meaning self.now.plan).top) }
     {
         for rank in 0..=self.plan.top() {
             if !self.replay_rank(amounts, codes, rank) {

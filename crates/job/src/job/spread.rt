@@ -18,17 +18,23 @@ use tone::Tone;
 // The code of an open square.
 pub const OPEN: u8 = 255;
 
-// The share for a direction with a higher neighbour that is not the last: that of a side or of a corner.
-fn share_for<T: Tone>(direction: usize, side: T, corner: T) -> T
-    ensures { result ≡ (if nat_eq (direction % 2) 0 then side else corner) }
+// The part for a direction with a higher neighbour: what is left for the last, and else the share of a side or of a corner.
+fn part_for<T: Tone>(direction: usize, last: usize, left: T, side: T, corner: T) -> T
+    ensures { result ≡ (if nat_eq direction last then left else (if nat_eq (direction % 2) 0 then side else corner)) }
 {
-    if direction % 2 == 0 { side } else { corner }
+    if direction == last {
+        left
+    } else if direction % 2 == 0 {
+        side
+    } else {
+        corner
+    }
 }
 
 // Adds a part to the amount at a place.
 fn add<T: Tone>(amounts: &mut [T], place: usize, part: T)
     requires { place < length amounts.old }
-    ensures { amounts.new ≡ slice_set amounts.old place (algebra.sum (slice_index_or amounts.old place algebra.zero) part) }
+    ensures { amounts.new ≡ slice_set amounts.old place (T.algebra.sum (slice_index_or amounts.old place T.algebra.zero) part) }
 {
     amounts[place] = amounts[place].sum(part);
 }
@@ -76,20 +82,14 @@ impl<P: Plan, Q: Quantiser> Job<P, Q> {
         requires pattern { PatternOf (squares_of P.Plan.meaning self.now) place pattern.now.kinds pattern.now.weights pattern.now.last }
         ensures { amounts.new ≡ spread Q.Tone.Tone.algebra (squares_of P.Plan.meaning self.now) place (sends Q.Tone.Tone.algebra (squares_of P.Plan.meaning self.now) place error) 8 amounts.old }
     {
-        let columns = self.size.columns;
         let corner = error.share(1, pattern.weights);
         let side = error.share(2, pattern.weights);
         let mut given = Q::Tone::zero();
         for d in 0..8 {
             if let Kind::Higher = pattern.kind(d) {
-                let at = place_beside(place, columns, d);
-                if d == pattern.last {
-                    add(amounts, at, error.difference(given));
-                    return;
-                }
-                let part = share_for(d, side, corner);
+                let part = part_for(d, pattern.last, error.difference(given), side, corner);
                 given = given.sum(part);
-                add(amounts, at, part);
+                add(amounts, place_beside(place, self.size.columns, d), part);
             }
         }
     }

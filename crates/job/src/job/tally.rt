@@ -16,7 +16,7 @@ use tone::{Tone, total};
 // The amounts of the open squares, added.
 fn sum_open<T: Tone>(amounts: &[T], codes: &[u8]) -> T
     requires { length codes.now ≡ length amounts.now }
-    ensures { result ≡ total_of algebra (open_at algebra codes.now amounts.now) (length amounts.now) }
+    ensures { result ≡ total_of T.algebra (open_at T.algebra codes.now amounts.now) (length amounts.now) }
 {
     let mut sum = T::zero();
     for (place, amount) in amounts.iter().enumerate() {

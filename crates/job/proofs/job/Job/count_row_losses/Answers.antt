@@ -7,8 +7,8 @@ use Rattle.job.proofs.Standing.{lost_read}
 use Rattle.job.proofs.job.Job.count_row_losses.Goals as goal
 use Rattle.job.proofs.job.Job.count_row_losses.Goals.{then-is_lost, else-is_lost}
 
-pub bounds-codes_start : goal.bounds-codes_start
-bounds-codes_start g c =
+pub bounds-codes-start : goal.bounds-codes-start
+bounds-codes-start g c =
     let inside = mul-add-lt c.args.row c.args.self.now.size.columns c.loop-column.column c.args.self.now.size.rows (omega arith) (omega arith) in
     omega arith
 

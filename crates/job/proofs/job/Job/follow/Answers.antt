@@ -5,7 +5,7 @@ use Rattle.model.specs.Calls.Answer.{Followed}
 use Rattle.model.proofs.OneMore.{FollowedTo, follow_begun, follow_next, follow_refused, follow_ended}
 use Rattle.refusal.specs.Numbers.{number_of}
 use Rattle.job.specs.Meaning.{meant, band}
-use Rattle.job.proofs.Attempts.{attempt_accepted, attempt_declined, follow_told}
+use Rattle.job.proofs.Attempts.{attempt_accepted, attempt_declined, follow-told}
 use Rattle.job.proofs.Fitting.{fitting}
 use Rattle.job.proofs.job.Job.follow.Goals as goal
 
@@ -48,7 +48,7 @@ returns-in-Err g c =
     let count_is : c.loop-place.count ≡ i = c.loop-place.invariant.0 in
     let number_is : c.number-in-Err.result ≡ suc d.less = c.number-in-Err.ensures ∙ d.number in
     (λ x. told (Followed (count_is x) (number_is x)) (d.same x))
-    ∙ follow_told p start ps _ (sym c.if-not-lengths_match.ensures) (follow_refused p.setting start ps i d.less before c.loop-place-test.true d.ground c.loop-place.invariant.1)
+    ∙ follow-told p start ps _ (sym c.if-not-lengths_match.ensures) (follow_refused p.setting start ps i d.less before c.loop-place-test.true d.ground c.loop-place.invariant.1)
 
 pub returns : goal.returns
 returns g c =
@@ -58,4 +58,4 @@ returns g c =
     let after = band c.loop-place.codes c.loop-place.amounts in
     let count_is : c.loop-place.count ≡ c.loop-place.place-index = c.loop-place.invariant.0 in
     (λ x. told (Followed (count_is x) 0) after)
-    ∙ follow_told p start ps _ (sym c.if-not-lengths_match.ensures) (follow_ended p.setting start ps c.loop-place.place-index after c.loop-place-test.false c.loop-place.invariant.1)
+    ∙ follow-told p start ps _ (sym c.if-not-lengths_match.ensures) (follow_ended p.setting start ps c.loop-place.place-index after c.loop-place-test.false c.loop-place.invariant.1)

@@ -3,18 +3,8 @@ use Rattle.std.proofs.lemmas.List.{get_or_default}
 use Rattle.diffusion.specs.Bands.{standing}
 use Rattle.diffusion.specs.Sets.{okay}
 use Rattle.job.specs.Patterns.{beside}
-use Rattle.job.proofs.Around.{lower_some, lower_not, lower-inside, lower_reached}
+use Rattle.job.proofs.Around.{lower_some, lower_not, lower-inside}
 use Rattle.job.proofs.job.Job.is_free.Goals as goal
-
-pub place_beside-requires : goal.place_beside-requires
-place_beside-requires g c =
-    let j = c.args.self.now in
-    record {
-      place = omega (arith, c.requires.inside, j.size.small);
-      columns = j.size.narrow;
-      direction = c.requires.direction;
-      reached = lower_reached j.size.rows j.size.columns (g.P.Plan.meaning j.plan) (g.met.P.Plan.lawful j.plan) c.args.place c.requires.inside c.args.pattern.now.kinds c.requires.pattern.kinds c.args.direction c.requires.direction (sym c.in-Lower.ensures);
-    }
 
 pub bounds-codes-place_beside : goal.bounds-codes-place_beside
 bounds-codes-place_beside g c =

@@ -5,5 +5,4 @@ use Rattle.job.proofs.job.Job.replay.Given as goal
 
 abbrev pub invariant-loop-rank : goal.invariant-loop-rank
 invariant-loop-rank g l =
-    (l.codes ≡ l.initial.codes)
-    × (Some l.amounts ≡ replay (setting_by g.Q.Tone.Tone.algebra g.P.Plan.meaning g.Q.Quantiser.tables l.self) l.initial.codes (Some l.initial.amounts) l.rank)
+    Some l.amounts ≡ replay (setting_by g.Q.Tone.Tone.algebra g.P.Plan.meaning g.Q.Quantiser.tables l.self) l.codes (Some l.initial.amounts) l.rank

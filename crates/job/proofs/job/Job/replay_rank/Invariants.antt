@@ -5,5 +5,4 @@ use Rattle.job.proofs.job.Job.replay_rank.Given as goal
 
 abbrev pub invariant-loop-row : goal.invariant-loop-row
 invariant-loop-row g l =
-    (l.codes ≡ l.initial.codes)
-    × (Some l.amounts ≡ replay_sweep (setting_by g.Q.Tone.Tone.algebra g.P.Plan.meaning g.Q.Quantiser.tables l.self) l.initial.codes l.rank (Some l.initial.amounts) (l.row * l.self.size.columns))
+    Some l.amounts ≡ replay_sweep (setting_by g.Q.Tone.Tone.algebra g.P.Plan.meaning g.Q.Quantiser.tables l.self) l.codes l.rank (Some l.initial.amounts) (l.row * l.self.size.columns)

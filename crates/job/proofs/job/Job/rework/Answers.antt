@@ -1,8 +1,7 @@
-use Rattle.std.proofs.Common.{suc, ◌+◌, length, Some, sym, refl, ap, ◌∙◌, arith}
+use Rattle.std.proofs.Common.{◌+◌, length, sym, refl, ap, ◌∙◌, arith}
 use Rattle.std.proofs.lemmas.Bool.{false≢true}
 use Rattle.bits.specs.Bits.{bytes_for}
 use Rattle.model.specs.Records.{stand_below}
-use Rattle.model.specs.Replays.{replay}
 use Rattle.job.specs.Meaning.{setting_by}
 use Rattle.job.proofs.Resuming.{reworked_not, reworked_by}
 use Rattle.job.proofs.job.Job.rework.Goals as goal
@@ -27,10 +26,5 @@ pub returns : goal.returns
 returns g c =
     let j = c.args.self.now in
     let write = c.if-not-write_codes.ensures in
-    let s = setting_by g.Q.Tone.Tone.algebra g.P.Plan.meaning g.Q.Quantiser.tables j in
-    let top = (g.P.Plan.meaning j.plan).top in
-    let stay = c.replay.ensures.stay in
-    let copied = c.copy_from_slice.new.self in
-    reworked_by s top c.args.drawing.now c.args.saved.now c.replay.new.codes c.replay.new.amounts
-    (length c.args.codes.now) c.requires.codes c.replay.result copied (write.each.0 refl) (stay ∙ write.written refl) c.copy_from_slice.ensures.after
-    (c.replay.ensures.worked ∙ ap (λ cs. replay s cs (Some copied) (suc top)) (sym stay))
+    reworked_by (setting_by g.Q.Tone.Tone.algebra g.P.Plan.meaning g.Q.Quantiser.tables j) (g.P.Plan.meaning j.plan).top c.args.drawing.now c.args.saved.now c.write_codes.new.codes c.replay.new.amounts
+    (length c.args.codes.now) c.requires.codes c.replay.result c.copy_from_slice.new.self (write.each.0 refl) (write.written refl) c.copy_from_slice.ensures.after c.replay.ensures

@@ -1,5 +1,6 @@
 use Rattle.std.proofs.Common.{◌≡◌, ℕ, ◌+◌, ◌-◌, ◌*◌, ◌%◌, ◌<◌, ◌≤◌}
 use Rattle.job.specs.Meaning.{setting_by, band}
+use Rattle.job.specs.Patterns.{PatternOf}
 use Rattle.job.specs.Progress.{progress, passed_from}
 use Rattle.job.proofs.job.Job.stride_row.Given as goal
 
@@ -9,7 +10,10 @@ invariant-loop-column g l =
     let q = (g.P.Plan.meaning l.self.plan).column_period in
     let columns = l.self.size.columns in
     let a = l.row * columns in
-    (l.column % q ≡ l.first)
+    (l.known ≤ l.column)
+    × (l.known % q ≡ l.first)
+    × (l.column % q ≡ l.first)
+    × PatternOf j.squares (a + l.known) l.pattern.kinds l.pattern.weights l.pattern.last
     × (l.count ≤ l.column)
     × (l.count ≤ columns)
     × (l.column < columns + q)

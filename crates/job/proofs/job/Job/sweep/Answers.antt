@@ -20,8 +20,8 @@ loop-rank-preserved g c =
     )
 
 -- the exit behind the last turn, where the rank is the top
-pub returns·2 : goal.returns·2
-returns·2 g c =
+pub returns-2 : goal.returns-2
+returns-2 g c =
     let j = setting_by g.Q.Tone.Tone.algebra g.P.Plan.meaning g.Q.Quantiser.tables c.args.self.now in
     let start = band c.args.codes.now c.args.amounts.now in
     let last : c.loop-rank.rank + 1 ≡ (g.P.Plan.meaning c.args.self.now.plan).top + 1 = omega (arith, c.top-rank-end.ensures) in

@@ -9,12 +9,12 @@ loop-place-init c = written_none (length c.args.codes.now) c.args.saved.now c.ar
 
 pub bounds-saved-next : goal.bounds-saved-next
 bounds-saved-next c =
-    next_within (length c.args.codes.now) c.args.saved.now c.loop-place.place c.loop-place.next c.loop-place.invariant.next-is (omega arith) (sym c.if-is_standing.ensures) c.requires.due
+    next_within (length c.args.codes.now) c.args.saved.now c.loop-place.place c.loop-place.next c.loop-place.invariant.next_is (omega arith) (sym c.if-is_standing.ensures) c.requires.due
 
 pub overflow_add-next-then-is_standing : goal.overflow_add-next-then-is_standing
 overflow_add-next-then-is_standing c =
     let within =
-    next_within (length c.args.codes.now) c.args.saved.now c.loop-place.place c.loop-place.next c.loop-place.invariant.next-is (omega arith) (sym c.if-is_standing.ensures) c.requires.due in
+    next_within (length c.args.codes.now) c.args.saved.now c.loop-place.place c.loop-place.next c.loop-place.invariant.next_is (omega arith) (sym c.if-is_standing.ensures) c.requires.due in
     search rules
 
 pub loop-place-preserved : goal.loop-place-preserved
