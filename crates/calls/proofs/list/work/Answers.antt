@@ -22,18 +22,18 @@ returns g c =
     let drawing = c.args.drawing.now in
     let calls = c.args.calls.now in
     let before = band c.args.codes.now c.args.amounts.now in
-    let start = band c.open_refusal.new.codes c.open_refusal.new.amounts in
+    let start = band c.open-refusal.new.codes c.open-refusal.new.amounts in
     let o = pools c.args.bytes.now c.args.places.now c.args.errors.now in
     let p = job_of tone rows columns (ranks c.args.plan) (tables c.args.quantiser) drawing in
-    let told = c.open_refusal.ensures in
-    let zero : c.open_refusal.result.0 ≡ 0 = c.if-refusal-ne0.false in
+    let told = c.open-refusal.ensures in
+    let zero : c.open-refusal.result.0 ≡ 0 = c.if-refusal-ne0.false in
     let none : open_refusal rows columns (length drawing) (length c.args.amounts.now) (length c.args.codes.now) ≡ 0 = sym told.number ∙ zero in
     let long = opened_lengths rows columns (length drawing) (length c.args.amounts.now) (length c.args.codes.now) none in
     let rows_is = told.rows ∙ ap (λ n. unless n rows 1) zero in
     let columns-is = told.columns ∙ ap (λ n. unless n columns 1) zero in
     let plan-is = told.plan in
     let quantiser-is = told.quantiser in
-    let same : meant tone ranks tables c.open_refusal.result.1 drawing ≡ p
+    let same : meant tone ranks tables c.open-refusal.result.1 drawing ≡ p
     = λ i. job_of tone (rows_is i) (columns-is i) (ranks (plan-is i)) (tables (quantiser-is i)) drawing in
     let law = lawful_job tone rows columns (ranks c.args.plan) (tables c.args.quantiser) drawing g.met.Q.Tone.Tone.lawful (g.met.P.Plan.lawful c.args.plan) (g.met.Q.Quantiser.sound c.args.quantiser) long.drawing in
     let start_is : start ≡ opened p.setting
