@@ -5,6 +5,7 @@
 use anyhow::anyhow;
 use drafting::draft;
 use std::io::{Read, Write};
+use std::process::ExitCode;
 
 // One byte more than the longest input, so that a longer one is seen.
 const MOST_READ: u64 = 65_537;
@@ -12,7 +13,8 @@ const MOST_READ: u64 = 65_537;
 // No draft of a drawing that is read is longer.
 const MOST_WRITTEN: usize = 4_109;
 
-fn main(rt: HostRuntime) -> anyhow::Result<()> {
+// Reads the drawing and writes its draft; an error where there is none.
+fn convert(rt: &HostRuntime) -> anyhow::Result<()> {
     let mut input = Vec::new(rt.alloc());
     let _ = rt.stdin().take(MOST_READ).read_to_end(&mut input)?;
     let mut out = [0u8; MOST_WRITTEN];
@@ -22,5 +24,13 @@ fn main(rt: HostRuntime) -> anyhow::Result<()> {
             Ok(())
         }
         Err(_) => Err(anyhow!("no draft")),
+    }
+}
+
+// An error is not said, since standard error stays empty too.
+fn main(rt: HostRuntime) -> ExitCode {
+    match convert(&rt) {
+        Ok(()) => ExitCode::SUCCESS,
+        Err(_) => ExitCode::FAILURE,
     }
 }

@@ -7,6 +7,7 @@ use anyhow::anyhow;
 use plan_words::parse_pile;
 use printing::print_sheet;
 use std::env;
+use std::process::ExitCode;
 
 // The words of the command line, without the program's own name.
 fn arguments(rt: &HostRuntime) -> anyhow::Result<Vec<String>> {
@@ -17,13 +18,22 @@ fn arguments(rt: &HostRuntime) -> anyhow::Result<Vec<String>> {
     Ok(words)
 }
 
-fn main(rt: HostRuntime) -> anyhow::Result<()> {
-    let words = arguments(&rt)?;
+// Prints the sheet, or says on standard error why there is none.
+fn print_told(rt: &HostRuntime) -> anyhow::Result<()> {
+    let words = arguments(rt)?;
     match parse_pile(rt.alloc(), words.as_slice()) {
-        Ok(pile) => print_sheet(&rt, words.as_slice(), &pile),
+        Ok(pile) => print_sheet(rt, words.as_slice(), &pile),
         Err(fault) => {
             eprintln!(rt; "plansheet: {fault}")?;
             Err(anyhow!("no sheet was printed"))
         }
+    }
+}
+
+// A refusal has been said in one line, and an error is not said again.
+fn main(rt: HostRuntime) -> ExitCode {
+    match print_told(&rt) {
+        Ok(()) => ExitCode::SUCCESS,
+        Err(_) => ExitCode::FAILURE,
     }
 }

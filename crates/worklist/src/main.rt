@@ -10,13 +10,12 @@ mod reading;
 mod tests;
 mod working;
 
-use anyhow::anyhow;
 use calls::Window;
 use fault::Fault;
 use list::{Worklist, part};
 use printing::print_outcome;
 use reading::{nothing_told, read_line};
-use std::io::{BufRead, BufReader};
+use std::process::ExitCode;
 use working::work_job;
 
 // What is wrong, and in which line.
@@ -31,7 +30,7 @@ fn read_all(rt: &HostRuntime) -> Result<Worklist, Misread> {
     let heap = rt.alloc();
     let mut list = nothing_told(heap);
     let mut line = 0usize;
-    for text in BufReader::new(rt.stdin()).lines(heap) {
+    for text in rt.lines(heap) {
         line = line.saturating_add(1);
         let Ok(text) = text else {
             return Err(Misread {
@@ -72,15 +71,18 @@ fn work_all(rt: &HostRuntime, list: &Worklist) -> anyhow::Result<()> {
     Ok(())
 }
 
-// Works nothing unless every line can be read.
-fn main(rt: HostRuntime) -> anyhow::Result<()> {
+// Works nothing unless every line can be read; a line that cannot be is told in one line on standard error.
+fn main(rt: HostRuntime) -> anyhow::Result<ExitCode> {
     match read_all(&rt) {
-        Ok(list) => work_all(&rt, &list),
+        Ok(list) => {
+            work_all(&rt, &list)?;
+            Ok(ExitCode::SUCCESS)
+        }
         Err(misread) => {
             let line = misread.line;
             let fault = misread.fault;
             eprintln!(rt; "worklist: line {line}: {fault}")?;
-            Err(anyhow!("no call was made"))
+            Ok(ExitCode::FAILURE)
         }
     }
 }
