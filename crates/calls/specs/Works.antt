@@ -9,7 +9,6 @@ use Rattle.model.specs.Jobs.{Job}
 use Rattle.model.specs.Runs.{Ran, run, carry_ran}
 use Rattle.model.specs.Steps.{halt_on, losses_on, model}
 use Rattle.model.specs.Theorems.{HoldsAfter}
-use Rattle.job.specs.declared.totals.Totals as totals
 use Rattle.calls.specs.declared.call.Answer.{Answer}
 use Rattle.calls.specs.declared.call.Answer.TheVariants.{Code, Followed, Count, Resumed, Totals, Refused}
 use Rattle.calls.specs.declared.call.Call.{Call}

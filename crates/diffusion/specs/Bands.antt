@@ -1,6 +1,6 @@
 -- The two bands: a code and a tone for each square. First what they hold when just the squares of a set are fixed, then what a fix makes of
 -- bands of any content.
-use Rattle.std.specs.Prelude.{ℕ, zero, suc, Bool, cond, not, List, [], ◌∷◌, map, set, Some, None, Option, ◌==◌, slice_index_or, slice_set}
+use Rattle.std.specs.Prelude.{ℕ, zero, suc, Bool, cond, not, List, [], ◌∷◌, map, Some, None, Option, ◌==◌, slice_index_or, slice_set}
 use Rattle.std.specs.List.{range_with_len}
 use Rattle.tone.specs.Algebra.{Algebra}
 use Rattle.diffusion.specs.Draft.{Setting, code, error, part, left, sends, gather}

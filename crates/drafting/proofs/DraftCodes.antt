@@ -12,7 +12,7 @@ use Rattle.quantiser.specs.Tables.{Tables, Sound}
 use Rattle.quantiser.specs.Threshold.{by_threshold}
 use Rattle.grid.specs.Limits.{Within, within}
 use Rattle.grid.proofs.Deciding.{within_true}
-use Rattle.diffusion.specs.Bands.{Bands, bands, code_at}
+use Rattle.diffusion.specs.Bands.{Bands, code_at}
 use Rattle.diffusion.specs.Draft.{amount, code}
 use Rattle.diffusion.specs.Sets.{every, none}
 use Rattle.diffusion.specs.Theorems.{Alike}

@@ -1,5 +1,5 @@
 -- What lies around a square of a plain drawing: the kinds and the places that the code works out are those of the definition.
-use Rattle.std.proofs.Common.{◌≡◌, ℕ, zero, suc, ◌+◌, ◌-◌, ◌*◌, ◌/◌, ◌%◌, ◌<◌, ◌≤◌, Bool, true, false, cond, ◌&&◌, ltb, List, get_or, is_some, Some, None, Option, sym, refl, ap, ◌∙◌, subst, ap₂, inl, inr, add-mul, one-mul, mul-zero, arith}
+use Rattle.std.proofs.Common.{◌≡◌, ℕ, zero, suc, ◌+◌, ◌-◌, ◌*◌, ◌/◌, ◌%◌, ◌<◌, ◌≤◌, Bool, true, false, cond, ◌&&◌, ltb, List, get_or, is_some, Some, None, Option, sym, refl, ap, ◌∙◌, ap₂, add-mul, one-mul, mul-zero, arith}
 use Rattle.std.proofs.lemmas.Bool.{cond-true, lt-ltb, ltb-true, cond_both, and_from}
 use Rattle.std.proofs.lemmas.Nat.{div-add-mod', div_below, mod_below}
 use Rattle.plan.specs.Ranks.{Ranks}

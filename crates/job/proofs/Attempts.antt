@@ -1,10 +1,10 @@
 -- An attempt to fix one square, by its outcome.
-use Rattle.std.proofs.Common.{◌≡◌, ℕ, suc, ◌<◌, ◌≤◌, Bool, true, false, not, ◌&&◌, eqb, ltb, List, length, get_or, set, sym, refl, ap, ◌∙◌, ap₂, arith}
+use Rattle.std.proofs.Common.{◌≡◌, ℕ, suc, ◌<◌, ◌≤◌, Bool, true, false, not, ◌&&◌, ltb, List, length, get_or, set, sym, refl, ap, ◌∙◌, ap₂, arith}
 use Rattle.std.proofs.lemmas.List.{get_or_default}
 use Rattle.std.proofs.lemmas.Bool.{eq-eqb, ne_eqb, le-ltb, cond-true, cond-false}
 use Rattle.diffusion.specs.Bands.{Bands, standing, spread, fixed_in}
 use Rattle.diffusion.specs.Draft.{Setting, sends, left}
-use Rattle.model.specs.Calls.{Answer, Told, told, fix_at}
+use Rattle.model.specs.Calls.{Answer, told, fix_at}
 use Rattle.model.specs.Calls.Answer.{Code, Followed, Refused}
 use Rattle.model.specs.Fixes as fixes
 use Rattle.model.specs.Fixes.{refusal, follow_in}

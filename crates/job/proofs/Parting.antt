@@ -1,12 +1,12 @@
 -- The parts of an error, one direction after the other: the steps of the loop that hands them out.
-use Rattle.std.proofs.Common.{◌≡◌, ℕ, suc, ◌+◌, ◌-◌, ◌%◌, ◌<◌, ◌≤◌, Bool, true, false, cond, eqb, List, get_or, set, is_some, Some, None, Option, sym, refl, ap, ◌∙◌, ap₂, inl, inr, add-one, arith}
+use Rattle.std.proofs.Common.{◌≡◌, ℕ, suc, ◌+◌, ◌-◌, ◌%◌, ◌<◌, ◌≤◌, Bool, true, false, cond, eqb, List, get_or, set, is_some, Some, None, sym, refl, ap, ◌∙◌, ap₂, inl, inr, add-one, arith}
 use Rattle.std.proofs.lemmas.Bool.{cases_eq, cases_Bool, cond-true, cond-false, eq-eqb, ne_eqb, both_ways}
 use Rattle.tone.specs.Algebra.{Algebra, Lawful}
 use Rattle.tone.specs.Sums.{total}
 use Rattle.tone.proofs.Totals.{total_more}
 use Rattle.grid.specs.Directions.{weight}
 use Rattle.diffusion.specs.Bands.{put, spread}
-use Rattle.diffusion.specs.Draft.{shared, shared_before, sends}
+use Rattle.diffusion.specs.Draft.{shared_before, sends}
 use Rattle.diffusion.specs.Neighbourhoods.{Neighbourhood, higher, weights, last}
 
 module _ (squares : Neighbourhood) (s : ℕ) where

@@ -13,7 +13,7 @@ use Rattle.diffusion.specs.Drawings.{setting_of}
 use Rattle.diffusion.specs.Sets.{none}
 use Rattle.model.specs.Calls.{told, resume_at}
 use Rattle.model.specs.Calls.Answer.{Resumed, Refused}
-use Rattle.model.specs.Jobs.{Job, Lawful, fits, job_of}
+use Rattle.model.specs.Jobs.{Job, fits, job_of}
 use Rattle.model.specs.Records.{stands, stand_below, right_size, spare_clear, right_length, well_formed, closed_by, record_refusal}
 use Rattle.model.specs.Replays.{codes_in, replay}
 use Rattle.model.specs.Steps.{resume_on}

@@ -1,5 +1,5 @@
 -- What lies around a square, without places: for each direction whether the neighbour is lower, higher, or there is none.
-use Rattle.std.specs.Prelude.{◌≡◌, ℕ, zero, suc, ◌+◌, ◌-◌, ◌<◌, cond, List, [], ◌∷◌, length, Some, None, Option, nat_lt, slice_index, slice_index_or}
+use Rattle.std.specs.Prelude.{◌≡◌, ℕ, zero, suc, ◌+◌, ◌-◌, ◌<◌, cond, List, [], ◌∷◌, Some, None, Option, nat_lt, slice_index, slice_index_or}
 use Rattle.plan.specs.Ranks.{Ranks}
 use Rattle.grid.specs.Directions.{weight}
 use Rattle.diffusion.specs.Neighbourhoods.{Neighbourhood, weights, last}

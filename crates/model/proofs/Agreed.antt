@@ -4,7 +4,7 @@ use mathlib.Core.Bool.{false≢true}
 use Rattle.std.proofs.lemmas.List.FromFn.{length-map-range_with_len}
 use Rattle.std.proofs.lemmas.Bool.{cond-true, eq-eqb, eqb-true, and_from}
 use Rattle.std.proofs.lemmas.Bool.Decides.{Decides-below_and, Decides-like}
-use Rattle.diffusion.specs.Bands.{Bands, bands, code_at, amount_at, amounts, standing, fixed_in}
+use Rattle.diffusion.specs.Bands.{Bands, bands, code_at, amount_at, amounts, fixed_in}
 use Rattle.diffusion.specs.Draft.{code, error}
 use Rattle.diffusion.specs.Neighbourhoods.{Neighbourhood}
 use Rattle.diffusion.specs.Sets.{add, ready_by, Closed, Ready}

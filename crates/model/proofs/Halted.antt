@@ -14,7 +14,7 @@ use Rattle.model.specs.Calls.{Call, Told, told, wrote, Pools, resume_at}
 use Rattle.model.specs.Calls.Answer.{Count, Resumed, Refused}
 use Rattle.model.specs.Calls.Call.{Follow}
 use Rattle.model.specs.Fixes.{follow}
-use Rattle.model.specs.Jobs.{Job, Lawful, squares, fits}
+use Rattle.model.specs.Jobs.{Job, Lawful, fits}
 use Rattle.model.specs.Records.{record_of, stands, record_refusal}
 use Rattle.model.specs.Runs.{run}
 use Rattle.model.specs.Steps.{on_bands}

@@ -13,7 +13,7 @@ use Rattle.diffusion.specs.Sets.{none}
 use Rattle.diffusion.specs.Theorems.{Alike}
 use Rattle.diffusion.proofs.Lines.{lawful_drawing}
 use Rattle.diffusion.proofs.SetBands.{opened_is}
-use Rattle.model.specs.Jobs.{Lawful, squares, job_of}
+use Rattle.model.specs.Jobs.{Lawful, job_of}
 use Rattle.model.specs.Openings.{opened_on}
 
 module _ {T : Type 0} (tone : Algebra T) (rows columns : ℕ) (plan : Ranks) (tables : Tables T) (drawing : List T) where

@@ -1,5 +1,5 @@
 -- The calls and their answers; one call by the seven that it names. S is the bands, or the set of the fixed squares.
-use Rattle.std.specs.Prelude.{ℕ, zero, suc, Bool, cond, ◌||◌, List, ◌++◌, length, take, drop, ◌==◌, nat_lt}
+use Rattle.std.specs.Prelude.{ℕ, zero, suc, cond, ◌||◌, List, ◌++◌, length, take, drop, ◌==◌, nat_lt}
 
 -- a part of a pool, cut to it
 pub record Window : Type 0 where

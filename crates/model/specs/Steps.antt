@@ -1,12 +1,12 @@
 -- The seven calls on bands of any content, and the model: the same calls on a set of squares.
 use Rattle.std.specs.Prelude.{ℕ, suc, Bool, cond, List, map, slice_index_or}
 use Rattle.diffusion.specs.Bands.{Bands, bands, codes, standing, fixed_in}
-use Rattle.diffusion.specs.Draft.{Setting, code, error}
+use Rattle.diffusion.specs.Draft.{code, error}
 use Rattle.diffusion.specs.Sets.{every, none, add, lacking}
 use Rattle.diffusion.specs.Sweeps.{sweep_in, swept_in}
 use Rattle.diffusion.specs.Tallies.{all_of, output_of, loss_of, open_of, drawing_total, output_total, loss_total, open_total, lost, loss_places, loss_errors}
 use Rattle.model.specs.Calls.{Call, Answer, Told, told, Wrote, wrote, Listed, listed, Acts, fix_at, resume_at, write_at, list_at, Pools, Done, perform}
-use Rattle.model.specs.Calls.Answer.{Code, Followed, Count, Totals, Refused}
+use Rattle.model.specs.Calls.Answer.{Followed, Count, Totals, Refused}
 use Rattle.model.specs.Fixes.{refusal, follow, follow_in}
 use Rattle.model.specs.Jobs.{Job, squares, place, fits}
 use Rattle.model.specs.Records.{record_of, stands, record_refusal}

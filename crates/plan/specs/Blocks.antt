@@ -1,11 +1,11 @@
 -- Ranks that repeat are apart everywhere if they are apart at the squares of one period, each towards the east and the south.
 --
-use Rattle.std.specs.Prelude.{◌≡◌, ℕ, zero, suc, ◌+◌, ◌*◌, ◌%◌, ◌<◌, ◌≤◌, Bool, true, false, not, ◌&&◌, ◌⊎◌, Decides, ◌==◌, refl}
-use Rattle.std.proofs.Common.{sym, ap, ap₂, ◌∙◌, inl, inr, ⊎_elim, mod-lt, arith}
+use Rattle.std.specs.Prelude.{◌≡◌, ℕ, zero, suc, ◌+◌, ◌%◌, ◌<◌, ◌≤◌, Bool, true, false, not, ◌&&◌, ◌⊎◌, Decides, ◌==◌, refl}
+use Rattle.std.proofs.Common.{sym, ap₂, ◌∙◌, ⊎_elim, mod-lt, arith}
 use Rattle.std.proofs.Math.Nat.{mod-mod, mod-add-mod}
 use Rattle.std.proofs.lemmas.Bool.Decides.{Decides-eqb, Decides-not, Decides-and, Decides-like, Decides-below_and}
 use Rattle.std.proofs.lemmas.Bool.{and_cases, eqb-true, not-false}
-use Rattle.plan.specs.Ranks.{Ranks, Near, Touch, Apart, Lawful, Period}
+use Rattle.plan.specs.Ranks.{Touch, Apart}
 use Rattle.plan.specs.Table.{BlockApart, block_apart, Clash}
 use Rattle.plan.specs.Modulo.{near_cases}
 

@@ -1,5 +1,5 @@
 -- The doubling plans, each worked out from the order below it.
-use Rattle.std.specs.Prelude.{ℕ, zero, suc, ◌+◌, ◌-◌, ◌*◌, ◌/◌, ◌%◌, ◌^◌, List, [], ◌∷◌}
+use Rattle.std.specs.Prelude.{ℕ, zero, suc, ◌+◌, ◌-◌, ◌*◌, ◌/◌, ◌%◌, ◌^◌, [], ◌∷◌}
 use Rattle.plan.specs.Ranks.{Ranks}
 use Rattle.plan.specs.Table.{tabled}
 

@@ -1,8 +1,8 @@
 -- The doubling plans keep the laws, by induction on the order.
 use Rattle.std.specs.Prelude.{◌≡◌, ℕ, zero, suc, ◌+◌, ◌-◌, ◌*◌, ◌/◌, ◌%◌, ◌^◌, ◌<◌, ◌≤◌, T, leb, List, [], ◌∷◌, nat_le, slice_index, refl}
-use Rattle.std.proofs.Common.{sym, ap, ap₂, subst, ◌∙◌, mod-lt, not-suc-le-zero, arith, lit≤, lit<}
+use Rattle.std.proofs.Common.{sym, ap₂, ◌∙◌, not-suc-le-zero, arith, lit≤, lit<}
 use Rattle.std.proofs.Math.Nat.{mod-mod, mod-mod_of_dvd, dvd-mul_left, pow-succ'}
-use Rattle.plan.specs.Ranks.{Ranks, Lawful, Apart, Period}
+use Rattle.plan.specs.Ranks.{Lawful, Apart, Period}
 use Rattle.plan.specs.Doubling.{corner_rank, doubling, doubling_plan}
 use Rattle.plan.specs.Blocks.{from_every}
 use Rattle.plan.specs.TableLaws.{tabled_repeats, repeating_apart}

@@ -1,8 +1,8 @@
 -- The layers keep the laws of the plan below.
-use Rattle.std.specs.Prelude.{◌≡◌, ℕ, ◌+◌, ◌-◌, ◌*◌, ◌%◌, ◌<◌, ◌≤◌, ◌⊎◌, ◌≢◌, refl}
-use Rattle.std.proofs.Common.{sym, ap, ap₂, ◌∙◌, inl, inr, ⊎_elim, mod-lt, mod-eq_of_lt, arith}
-use Rattle.std.proofs.Math.Nat.{mod-mod, mod-add-mod, add-mod-mod, mod_self}
-use Rattle.plan.specs.Ranks.{Ranks, Near, Touch, Apart, Lawful, Period}
+use Rattle.std.specs.Prelude.{◌≡◌, ℕ, ◌+◌, ◌-◌, ◌%◌, ◌≤◌, ◌≢◌, refl}
+use Rattle.std.proofs.Common.{sym, ap, ◌∙◌, inl, inr, ⊎_elim, arith}
+use Rattle.std.proofs.Math.Nat.{mod-mod, mod-add-mod}
+use Rattle.plan.specs.Ranks.{Ranks, Near, Lawful}
 use Rattle.plan.specs.Layers.{reading, along, across, same, shifted, mirrored, turned, reversed}
 use Rattle.plan.specs.Plane.{NearModulo}
 use Rattle.plan.specs.Modulo.{next_other, near_cases, turn_near, across_next}

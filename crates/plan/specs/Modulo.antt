@@ -1,7 +1,7 @@
 -- Rows or columns that repeat by a period p: numbers that are near one another modulo p.
-use Rattle.std.specs.Prelude.{◌≡◌, ℕ, ◌+◌, ◌-◌, ◌*◌, ◌%◌, ◌<◌, ◌≤◌, ◌⊎◌, ◌≢◌, refl}
+use Rattle.std.specs.Prelude.{◌≡◌, ℕ, ◌+◌, ◌%◌, ◌<◌, ◌≤◌, ◌⊎◌, ◌≢◌, refl}
 use Rattle.std.proofs.Common.{sym, ap, ◌∙◌, inl, inr, ⊎_elim, mod-lt, mod-eq_of_lt, arith}
-use Rattle.std.proofs.Math.Nat.{mod-mod, mod-add-mod, mod_self}
+use Rattle.std.proofs.Math.Nat.{mod-add-mod, mod_self}
 use Rattle.std.proofs.lemmas.Bool.{cases_order, cases_lt}
 use Rattle.plan.specs.Layers.{across}
 use Rattle.plan.specs.Plane.{NearModulo}

@@ -1,12 +1,12 @@
 -- Squares that touch modulo the periods, or anywhere on the unbounded plane, have different ranks.
-use Rattle.std.specs.Prelude.{◌≡◌, ℕ, zero, suc, ◌+◌, ◌-◌, ◌%◌, ◌<◌, ◌≤◌, ◌⊎◌, ℤ, pos, negsuc, ◌+ℤ◌, nat_lt, refl}
-use Rattle.std.proofs.Common.{sym, ap, ap₂, ◌∙◌, inl, inr, ⊎_elim, mod-lt, mod-eq_of_lt, add-one, arith}
+use Rattle.std.specs.Prelude.{◌≡◌, ℕ, zero, suc, ◌+◌, ◌-◌, ◌%◌, ◌≤◌, ℤ, pos, negsuc, ◌+ℤ◌, nat_lt}
+use Rattle.std.proofs.Common.{sym, ap, ap₂, ◌∙◌, inl, inr, ⊎_elim, add-one, arith}
 use Rattle.std.proofs.Math.Nat.{mod-mod, mod-add-mod, mod_self, zero-mod}
 use Rattle.std.proofs.lemmas.Bool.{cond-true, lt-ltb}
 use Rattle.plan.specs.Layers.{across}
-use Rattle.plan.specs.Plane.{NearModulo, TouchModulo, DifferModuloPeriods, reduced, plane_rank, NearWhole, TouchOnPlane, DifferOnThePlane}
-use Rattle.plan.specs.Ranks.{Ranks, Near, Touch, Lawful}
-use Rattle.plan.specs.Modulo.{next_other, lift, turn_near, across_next}
+use Rattle.plan.specs.Plane.{NearModulo, DifferModuloPeriods, reduced, NearWhole, DifferOnThePlane}
+use Rattle.plan.specs.Ranks.{Ranks, Touch, Lawful}
+use Rattle.plan.specs.Modulo.{next_other, lift, across_next}
 
 module _ (m : Ranks) (law : Lawful m) where
   -- squares with equal remainders have equal ranks

@@ -1,10 +1,10 @@
 -- The laws of a plan that is a table.
-use Rattle.std.specs.Prelude.{◌≡◌, ℕ, zero, suc, ◌+◌, ◌*◌, ◌%◌, ◌<◌, ◌≤◌, Bool, true, false, not, ◌&&◌, List, [], length, Decides, nat_le, slice_index, slice_index_or, refl}
-use Rattle.std.proofs.Common.{sym, ap, ap₂, ◌∙◌, mod-lt, arith, lit≤}
+use Rattle.std.specs.Prelude.{◌≡◌, ℕ, ◌+◌, ◌*◌, ◌%◌, ◌<◌, ◌≤◌, true, List, [], length, nat_le, slice_index, slice_index_or, refl}
+use Rattle.std.proofs.Common.{sym, ap₂, ◌∙◌, arith, lit≤}
 use Rattle.std.proofs.Math.Nat.{mod-mod}
 use Rattle.std.proofs.lemmas.Bool.{leb-true, le-leb}
 use Rattle.std.proofs.lemmas.Nat.{mul-add-lt, mod_below, mul-le}
-use Rattle.plan.specs.Ranks.{Ranks, Lawful, Apart, Period}
+use Rattle.plan.specs.Ranks.{Lawful, Apart, Period}
 use Rattle.plan.specs.Table.{tabled, table_plan, BlockApart, block_apart, Clash, Sized}
 use Rattle.plan.specs.Knuth.{knuth_rows, knuth_rank, knuth_plan}
 use Rattle.plan.specs.Blocks.{decides_block, blocks_everywhere, apart_from_blocks, apart_from_none, clash_breaks, every, from_every}

@@ -1,5 +1,5 @@
 -- Codes below their counts give a code below the product.
-use Rattle.std.specs.Prelude.{◌≡◌, ℕ, ◌+◌, ◌*◌, ◌/◌, ◌%◌, ◌<◌, ◌≤◌, nat_lt}
+use Rattle.std.specs.Prelude.{ℕ, ◌*◌, ◌<◌, nat_lt}
 use Rattle.std.proofs.Common.{arith, mul_comm}
 use Rattle.std.proofs.lemmas.Nat.{mul-add-lt}
 use Rattle.std.proofs.lemmas.Bool.{cond-false, le-ltb}
@@ -8,7 +8,7 @@ use Rattle.tone.specs.Algebra.{Algebra}
 use Rattle.tone.specs.Pair.{pair_algebra}
 use Rattle.quantiser.specs.Tables.{Tables, Sound}
 use Rattle.quantiser.specs.Beside.{side_by_side}
-use Rattle.quantiser.specs.Codes.{below, joined, first_of, second_of}
+use Rattle.quantiser.specs.Codes.{below, joined}
 use Rattle.quantiser.specs.declared.counts.Counts.{Counts}
 
 pub first_some : (k : Counts) → 0 < k.first

@@ -1,6 +1,6 @@
 -- What `least` is: a place below n, none is smaller there, and each before it is greater.
-use Rattle.std.specs.Prelude.{◌≡◌, ℕ, zero, suc, ◌+◌, ◌<◌, ◌≤◌, Bool, true, false, cond, ◌⊎◌, nat_lt, refl}
-use Rattle.std.proofs.Common.{sym, ◌∙◌, ap, inl, inr, ⊎_elim, arith, add-one}
+use Rattle.std.specs.Prelude.{◌≡◌, ℕ, zero, suc, ◌+◌, ◌<◌, ◌≤◌, Bool, true, false, cond, nat_lt, refl}
+use Rattle.std.proofs.Common.{sym, ◌∙◌, ap, ⊎_elim, arith, add-one}
 use Rattle.std.proofs.lemmas.Bool.{cond_both, ltb-true, ltb-false, cases_lt, cond-true, cond-false, lt-ltb, le-ltb}
 use Rattle.quantiser.specs.Least.{least, FirstSmallest}
 

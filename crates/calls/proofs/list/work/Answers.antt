@@ -1,8 +1,8 @@
-use Rattle.std.proofs.Common.{◌≡◌, ℕ, ◌*◌, true, cond, leb, map, length, sym, refl, ap, ◌∙◌, subst, arith}
+use Rattle.std.proofs.Common.{◌≡◌, leb, map, length, sym, refl, ap, ◌∙◌, arith}
 use Rattle.std.proofs.lemmas.Bool.{le-leb, cond-true}
-use Rattle.diffusion.specs.Bands.{Bands, opened}
+use Rattle.diffusion.specs.Bands.{opened}
 use Rattle.model.specs.Calls.{pools}
-use Rattle.model.specs.Jobs.{Job, job_of}
+use Rattle.model.specs.Jobs.{job_of}
 use Rattle.model.specs.Openings.{open_refusal, unless, opened_on}
 use Rattle.model.specs.Runs.{run}
 use Rattle.model.specs.Steps.{step}

@@ -1,4 +1,4 @@
-use Rattle.std.proofs.Common.{◌≡◌, sym, ap, ◌∙◌}
+use Rattle.std.proofs.Common.{sym, ap, ◌∙◌}
 use Rattle.model.specs.Calls.{pools, keep_pools}
 use Rattle.model.specs.Steps.{step}
 use Rattle.job.specs.Meaning.{meant, band}

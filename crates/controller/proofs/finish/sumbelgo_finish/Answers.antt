@@ -1,4 +1,4 @@
-use Rattle.std.proofs.Common.{◌≡◌, ℕ, ap, ◌∙◌, subst, to_z-of_z}
+use Rattle.std.proofs.Common.{ℕ, ap, ◌∙◌, subst, to_z-of_z}
 use Rattle.tone.specs.declared.grey.Grey.{Grey}
 use Rattle.diffusion.specs.Bands.{Bands}
 use Rattle.model.specs.Calls.{Told, told}

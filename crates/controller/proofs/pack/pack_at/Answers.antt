@@ -1,4 +1,4 @@
-use Rattle.std.proofs.Common.{◌≡◌, sym, refl, ap, ◌∙◌}
+use Rattle.std.proofs.Common.{sym, refl, ap, ◌∙◌}
 use Rattle.controller.specs.declared.answer.Answer.{Answer}
 use Rattle.controller.proofs.Numbers.{never_0}
 use Rattle.controller.proofs.pack.pack_at.Goals as goal

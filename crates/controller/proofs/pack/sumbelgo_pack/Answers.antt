@@ -1,4 +1,4 @@
-use Rattle.std.proofs.Common.{◌≡◌, refl, ap, ◌∙◌, subst₂}
+use Rattle.std.proofs.Common.{refl, ap, ◌∙◌, subst₂}
 use Rattle.std.proofs.lemmas.Bool.{both_ways}
 use Rattle.grid.specs.Limits.{Within, within}
 use Rattle.grid.proofs.Deciding.{within_true, WithinFrom}

@@ -1,4 +1,4 @@
-use Rattle.std.proofs.Common.{◌≡◌, sym, ap, ◌∙◌}
+use Rattle.std.proofs.Common.{sym, ap, ◌∙◌}
 use Rattle.controller.specs.Readings.{reading, read_answer}
 use Rattle.controller.proofs.read.sumbelgo_read.Goals as goal
 

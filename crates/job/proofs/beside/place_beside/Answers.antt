@@ -1,5 +1,4 @@
-use Rattle.std.proofs.Common.{◌≡◌, sym, ap, ◌∙◌, arith}
-use Rattle.job.specs.Patterns.{beside}
+use Rattle.std.proofs.Common.{◌≡◌, arith}
 use Rattle.job.proofs.beside.place_beside.Goals as goal
 
 pub returns-in-0 : goal.returns-in-0

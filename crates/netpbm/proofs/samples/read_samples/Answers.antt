@@ -1,6 +1,6 @@
 use Rattle.std.proofs.Common.{◌≡◌, ◌+◌, Some, None, sym, refl, ap, ◌∙◌, arith}
 use Rattle.netpbm.specs.Words.{after}
-use Rattle.netpbm.specs.Pgm.{told_by, first_fault, tone_of, greatest_in}
+use Rattle.netpbm.specs.Pgm.{told_by, first_fault, greatest_in}
 use Rattle.netpbm.proofs.Faults.{fault_of, fault_more, fault_stays, sound_all, band_more, band_is, sample_fault_is, tone_is, next_is}
 use Rattle.netpbm.proofs.samples.read_samples.Goals as goal
 

@@ -1,4 +1,4 @@
-use Rattle.std.proofs.Common.{◌%◌, mod-lt, arith}
+use Rattle.std.proofs.Common.{◌%◌, arith}
 use Rattle.std.proofs.lemmas.Nat.{mul-add-lt, mod_below}
 use Rattle.plan.proofs.apart.rank_in.Goals as goal
 

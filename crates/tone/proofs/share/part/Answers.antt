@@ -1,4 +1,4 @@
-use Rattle.std.proofs.Common.{◌≡◌, ap, ◌∙◌, w32, w64, SFits, to_z, of_z}
+use Rattle.std.proofs.Common.{ap, ◌∙◌, w32, w64, SFits, to_z, of_z}
 use mathlib.Core.Path.{subst⁻¹}
 use Rattle.std.proofs.lemmas.Int.{to_z-of_z}
 use Rattle.tone.specs.Grey.{part_of}

@@ -1,5 +1,4 @@
-use Rattle.std.proofs.Common.{◌≡◌, ℕ, suc, ◌+◌, length, get_or, sym, refl, ap, ◌∙◌, subst, arith}
-use Rattle.diffusion.specs.Bands.{Bands}
+use Rattle.std.proofs.Common.{◌≡◌, suc, ◌+◌, get_or, sym, refl, ◌∙◌, subst, arith}
 use Rattle.model.specs.Calls.{told}
 use Rattle.model.specs.Calls.Answer.{Followed}
 use Rattle.model.proofs.OneMore.{FollowedTo, follow_begun, follow_next, follow_refused, follow_ended}

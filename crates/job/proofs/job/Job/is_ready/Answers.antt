@@ -1,4 +1,4 @@
-use Rattle.std.proofs.Common.{sym, ◌∙◌}
+use Rattle.std.proofs.Common.{sym}
 use Rattle.diffusion.specs.Bands.{standing}
 use Rattle.job.specs.Meaning.{squares_of}
 use Rattle.job.proofs.Readies.{ready_none, ready_more, ready_fails}

@@ -4,7 +4,7 @@ use Rattle.grid.specs.Directions.{down, across}
 use Rattle.grid.specs.Lines.{plain, step}
 use Rattle.diffusion.proofs.Lines.{by_eight}
 use Rattle.job.specs.Meaning.{squares_of}
-use Rattle.job.specs.Patterns.{kind_of, kind_at, PatternOf}
+use Rattle.job.specs.Patterns.{kind_of, kind_at}
 use Rattle.job.specs.declared.kind.Kind.{Kind}
 use Rattle.job.specs.declared.kind.Kind.TheVariants.{Neither}
 use Rattle.job.proofs.Around.{kind_here, pattern_told}

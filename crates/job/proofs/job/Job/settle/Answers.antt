@@ -1,7 +1,7 @@
-use Rattle.std.proofs.Common.{◌≡◌, ℕ, ◌*◌, ◌<◌, Bool, length, sym, ap, ◌∙◌, arith}
+use Rattle.std.proofs.Common.{◌<◌, length, sym, ap, ◌∙◌, arith}
 use Rattle.std.proofs.lemmas.List.{get_or_read}
 use Rattle.diffusion.specs.Bands.{standing}
-use Rattle.job.specs.Meaning.{squares_of, setting_by, band}
+use Rattle.job.specs.Meaning.{setting_by, band}
 use Rattle.job.proofs.Attempts.{standing_open, standing-fixed, attempt_refused, attempt_made}
 use Rattle.job.proofs.Refusing.{refused_fixed, refused_waiting, not_refused}
 use Rattle.job.proofs.job.Job.settle.Goals as goal

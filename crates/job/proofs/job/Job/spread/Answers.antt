@@ -1,9 +1,8 @@
-use Rattle.std.proofs.Common.{◌≡◌, ℕ, ◌+◌, ◌%◌, ◌<◌, ◌≤◌, cond, eqb, List, length, get_or, set, sym, refl, ap, ◌∙◌, subst, arith}
+use Rattle.std.proofs.Common.{◌≡◌, ◌+◌, ◌%◌, ◌≤◌, cond, eqb, List, get_or, set, sym, ap, ◌∙◌, subst, arith}
 use Rattle.tone.specs.Sums.{total}
 use Rattle.diffusion.specs.Bands.{spread}
 use Rattle.tone.proofs.Totals.{total-none}
 use Rattle.diffusion.specs.Draft.{sends, shared_before}
-use Rattle.diffusion.proofs.Spreading.{length-spread}
 use Rattle.job.specs.Meaning.{squares_of}
 use Rattle.job.specs.Patterns.{beside}
 use Rattle.job.proofs.Parting.{spread_none, Handed, worked_part, hand_higher, hand_other}

@@ -1,7 +1,7 @@
-use Rattle.std.proofs.Common.{◌≡◌, ℕ, ◌+◌, ◌*◌, sym, ap, ◌∙◌, arith}
+use Rattle.std.proofs.Common.{◌≡◌, ℕ, ◌+◌, ap, ◌∙◌, arith}
 use Rattle.diffusion.proofs.Lines.{lawful_drawing}
 use Rattle.job.specs.Meaning.{setting_by, band}
-use Rattle.job.specs.Progress.{progress, swept_below}
+use Rattle.job.specs.Progress.{swept_below}
 use Rattle.job.proofs.Lower.{lower-swept}
 use Rattle.job.proofs.Passes.{swept_none, rank_more}
 use Rattle.job.proofs.job.Job.sweep.Goals as goal

@@ -1,4 +1,4 @@
-use Rattle.std.proofs.Common.{◌≡◌, ◌*◌, ◌≤◌}
+use Rattle.std.proofs.Common.{◌≡◌}
 use Rattle.job.specs.Patterns.{kinds_last}
 use Rattle.job.proofs.job.gather.last_of.Given as goal
 

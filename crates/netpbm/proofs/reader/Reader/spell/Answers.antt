@@ -1,4 +1,4 @@
-use Rattle.std.proofs.Common.{◌+◌, ◌-◌, length, get_or, drop, sym, ap, ◌∙◌, arith}
+use Rattle.std.proofs.Common.{◌+◌, length, get_or, drop, sym, ap, ◌∙◌, arith}
 use Rattle.std.proofs.lemmas.Bool.{false≢true}
 use Rattle.netpbm.specs.Words.{capped, spelled, word_from}
 use Rattle.netpbm.proofs.Words.{word_ended, word_more, word_end, spelled-digit, spelled_none, capped_some}
