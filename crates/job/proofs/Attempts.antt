@@ -1,9 +1,9 @@
 -- An attempt to fix one square, by its outcome.
-use Rattle.std.proofs.Common.{◌≡◌, ℕ, suc, ◌<◌, ◌≤◌, Bool, true, false, not, ◌&&◌, ltb, List, length, get_or, set, sym, refl, ap, ◌∙◌, ap₂, arith}
+use Rattle.std.proofs.Common.{◌≡◌, ℕ, suc, ◌<◌, ◌≤◌, Bool, true, false, not, ◌&&◌, ltb, List, length, get_or, sym, refl, ap, ◌∙◌, arith}
 use Rattle.std.proofs.lemmas.List.{get_or_default}
 use Rattle.std.proofs.lemmas.Bool.{eq-eqb, ne_eqb, le-ltb, cond-true, cond-false}
-use Rattle.diffusion.specs.Bands.{Bands, standing, spread, fixed_in}
-use Rattle.diffusion.specs.Draft.{Setting, sends, left}
+use Rattle.diffusion.specs.Bands.{Bands, standing, fixed_in}
+use Rattle.diffusion.specs.Draft.{Setting}
 use Rattle.model.specs.Calls.{Answer, told, fix_at}
 use Rattle.model.specs.Calls.Answer.{Code, Followed, Refused}
 use Rattle.model.specs.Fixes as fixes
@@ -23,19 +23,6 @@ standing-fixed codes s l other = ap not (ne_eqb (get_or codes s 255) 255 (λ is.
 module _ {T : Type 0} (j : Setting T) (s : ℕ) (b : Bands T) where
   pub attempt_refused : (n : ℕ) → refusal j.squares (standing b.codes) s ≡ suc n → told (Refused (suc n)) b ≡ attempt j s b
   attempt_refused n is = sym (ap (λ r. fix_at r (j.tables.choice (get_or b.amounts s j.algebra.zero)) (fixed_in j s b) b) is)
-
-  pub attempt_made : (x : T) (code : ℕ) (e : T) (xs : List T) → refusal j.squares (standing b.codes) s ≡ 0 → x ≡ get_or b.amounts s j.algebra.zero
-      → code ≡ j.tables.choice x → e ≡ j.algebra.difference x (j.tables.output code)
-      → xs ≡ spread j.algebra j.squares s (sends j.algebra j.squares s e) 8 (set b.amounts s e)
-      → told (Code code) (record { codes = set b.codes s code; amounts = xs }) ≡ attempt j s b
-  attempt_made x code e xs none x_is code_is e_is xs_is =
-      let y = get_or b.amounts s j.algebra.zero in
-      let code_at : code ≡ j.tables.choice y = code_is ∙ ap j.tables.choice x_is in
-      let e_at : e ≡ left j y = e_is ∙ ap₂ j.algebra.difference x_is (ap j.tables.output code_at) in
-      let xs_at : xs ≡ spread j.algebra j.squares s (sends j.algebra j.squares s (left j y)) 8 (set b.amounts s (left j y))
-      = xs_is ∙ ap (λ z. spread j.algebra j.squares s (sends j.algebra j.squares s z) 8 (set b.amounts s z)) e_at in
-      (λ i. told (Code (code_at i)) (record { codes = set b.codes s (code_at i); amounts = xs_at i }))
-      ∙ sym (ap (λ r. fix_at r (j.tables.choice y) (fixed_in j s b) b) none)
 
 -- a row or a column outside the drawing
 module _ {T : Type 0} (p : Job T) (row column : ℕ) (b : Bands T) where

@@ -17,6 +17,7 @@ pub mod Refusing
 pub mod Resuming
 pub mod Standing
 pub mod Strides
+pub mod Taking
 pub mod Terms
 pub mod Unpacking
 pub mod Working

@@ -1,6 +1,6 @@
 -- Finish in parts: how many squares were fixed, and the bands after. The code works row by row, and the definition place by place.
 use Rattle.std.specs.Prelude.{◌≡◌, ℕ, zero, suc, ◌+◌, ◌<◌, true, cond, List}
-use Rattle.diffusion.specs.Bands.{Bands, standing}
+use Rattle.diffusion.specs.Bands.{Bands, standing, fixed_in}
 use Rattle.diffusion.specs.Draft.{Setting}
 use Rattle.diffusion.specs.Neighbourhoods.{Neighbourhood}
 use Rattle.diffusion.specs.Sets.{every}
@@ -16,6 +16,10 @@ progress n b = record { count = n; bands = b }
 -- s, and then f on its bands
 abbrev pub and_then : {T : Type 0} → Progress T → (Bands T → Progress T) → Progress T
 and_then s f = progress (s.count + (f s.bands).count) (f s.bands).bands
+
+-- one square: fixed where it is open, whatever its neighbours
+abbrev pub taken : {T : Type 0} → Setting T → ℕ → Bands T → Progress T
+taken j s b = progress (cond (standing b.codes s) 0 1) (cond (standing b.codes s) b (fixed_in j s b))
 
 module _ {T : Type 0} (j : Setting T) (rank : ℕ) where
   -- one square: fixed where it is of the rank, open and ready

@@ -9,12 +9,10 @@ ghost use Rattle.job.specs.Periods.{First, Lone, Inner};
 ghost use Rattle.job.specs.Progress.{progress, visited, passed_from, passed_below, swept_below, LowerStand};
 
 use crate::job::Job;
-use crate::job::spread::OPEN;
 use crate::pattern::Pattern;
 use plan::Plan;
 use quantiser::Quantiser;
 use refusal::Refusal;
-use tone::Tone;
 
 // The number after a phase of a period: rows are counted by it without a division.
 fn next_phase(phase: usize, period: usize) -> usize
@@ -43,16 +41,7 @@ impl<P: Plan, Q: Quantiser> Job<P, Q> {
         ensures few { result ≤ 1 }
         ensures after { progress result (band codes.new amounts.new) ≡ visited (setting_by Q.Tone.Tone.algebra P.Plan.meaning Q.Quantiser.tables self.now) ((squares_of P.Plan.meaning self.now).rank place) place (band codes.old amounts.old) }
     {
-        if codes[place] != OPEN {
-            return 0;
-        }
-        let amount = amounts[place];
-        let code = self.quantiser.choose(amount);
-        let error = amount.difference(self.quantiser.output(code));
-        codes[place] = code;
-        amounts[place] = error;
-        self.spread(amounts, place, pattern, error);
-        1
+        self.take(amounts, codes, place, pattern)
     }
 
     // Fixes the ready squares of one rank in a row, column by column, and answers how many.

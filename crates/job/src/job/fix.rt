@@ -13,7 +13,6 @@ use crate::pattern::Pattern;
 use plan::Plan;
 use quantiser::Quantiser;
 use refusal::Refusal;
-use tone::Tone;
 
 impl<P: Plan, Q: Quantiser> Job<P, Q> {
     // Fixes the square at a place, whose pattern is told, on bands of the right length: 4 where it is fixed, 5 where a lower neighbour is open.
@@ -36,13 +35,8 @@ impl<P: Plan, Q: Quantiser> Job<P, Q> {
         if !self.is_ready(codes, place, pattern) {
             return Err(Refusal::LowerNeighbourOpen);
         }
-        let amount = amounts[place];
-        let code = self.quantiser.choose(amount);
-        let error = amount.difference(self.quantiser.output(code));
-        codes[place] = code;
-        amounts[place] = error;
-        self.spread(amounts, place, pattern, error);
-        Ok(code)
+        let _ = self.take(amounts, codes, place, pattern);
+        Ok(codes[place])
     }
 
     // The same for the square at a row and a column.

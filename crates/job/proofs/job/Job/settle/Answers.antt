@@ -1,9 +1,9 @@
-use Rattle.std.proofs.Common.{◌<◌, length, sym, ap, ◌∙◌, arith}
-use Rattle.std.proofs.lemmas.List.{get_or_read}
+use Rattle.std.proofs.Common.{◌<◌, length, sym, refl, arith}
 use Rattle.diffusion.specs.Bands.{standing}
 use Rattle.job.specs.Meaning.{setting_by, band}
-use Rattle.job.proofs.Attempts.{standing_open, standing-fixed, attempt_refused, attempt_made}
+use Rattle.job.proofs.Attempts.{standing_open, standing-fixed, attempt_refused}
 use Rattle.job.proofs.Refusing.{refused_fixed, refused_waiting, not_refused}
+use Rattle.job.proofs.Taking.{attempt-taken}
 use Rattle.job.proofs.job.Job.settle.Goals as goal
 
 pub returns-then-codes-place : goal.returns-then-codes-place
@@ -28,13 +28,8 @@ pub returns : goal.returns
 returns g c =
     let j = setting_by g.Q.Tone.Tone.algebra g.P.Plan.meaning g.Q.Quantiser.tables c.args.self.now in
     let codes = c.args.codes.now in
-    let amounts = c.args.amounts.now in
     let s = c.args.place in
     let inside : s < length codes = omega arith in
-    let held : s < length amounts = omega arith in
-    attempt_made j s (band codes amounts) c.index-amounts-place.result c.choose-code.result c.difference-error.result c.spread.new.amounts
-    (not_refused j.squares (standing codes) s c.requires.inside (standing_open codes s inside c.if-codes-place.false) (sym c.if-not-is_ready.ensures))
-    (get_or_read amounts s c.index-amounts-place.result held c.index-amounts-place.is g.Q.Tone.Tone.algebra.zero)
-    c.choose-code.ensures
-    (c.difference-error.ensures ∙ ap (g.Q.Tone.Tone.algebra.difference c.index-amounts-place.result) c.output.ensures)
-    c.spread.ensures
+    let is_open = standing_open codes s inside c.if-codes-place.false in
+    attempt-taken j s (band codes c.args.amounts.now) c.take.result _ (band c.take.new.codes c.take.new.amounts) inside is_open
+    (not_refused j.squares (standing codes) s c.requires.inside is_open (sym c.if-not-is_ready.ensures)) c.take.ensures.after refl
