@@ -1,7 +1,7 @@
 -- The worked examples, by computing.
 use Rattle.std.proofs.Common.{◌≡◌, ℕ, Bool, true, false, cond, ltb, [], ◌∷◌, pos, refl, ap, ◌∙◌, inr, arith}
 use Rattle.std.proofs.lemmas.Bool.{cond-false, le-ltb}
-use Rattle.std.specs.List.{AllByRecursion as All}
+use Rattle.std.specs.List.{AllByRecursion}
 use Rattle.std.specs.Int.{int_wrap}
 use Rattle.tone.specs.Colour.{colour_of}
 use Rattle.tone.specs.Grey.{wrap}
@@ -66,7 +66,7 @@ tie p is =
     ap (least (λ k. distance x (entry_of p k))) two
     ∙ first_of_two (λ k. distance x (entry_of p k)) 127 (ap (distance x) (is.colours 0 (omega arith))) (ap (distance x) (is.colours 1 (omega arith)))
 
-pub all_hold : All Holds examples
+pub all_hold : AllByRecursion Holds examples
 unfolding int_wrap knuth_rows corner_rank doubling total lower higher weights last sends gather amount_by amount lost spread code_at amount_at ready_by pass_in passed_in sweep_in swept_in refusal follow_in binary stand_below all_below record_refusal run
 all_hold = (
   largest,

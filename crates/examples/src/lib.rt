@@ -1,12 +1,12 @@
 // Worked examples, shown of the definitions themselves: one list, and one statement that every example of it holds.
 #![tactic(auto)]
 
-ghost use Rattle.std.specs.List.{AllByRecursion as All};
+ghost use Rattle.std.specs.List.{AllByRecursion};
 ghost use Rattle.examples.specs.Examples.{Holds, examples};
 
 // Every worked example holds.
 pub fn examples_hold() -> u8
-    ensures { All Holds examples }
+    ensures { AllByRecursion Holds examples }
 {
     0
 }
