@@ -1,7 +1,7 @@
-// Links the proved library, which `rt staticlib controller` wrote.
+// Links the proved library, which `rt lib` in crates/controller wrote.
 fn main() {
     let root = std::env::var("CARGO_MANIFEST_DIR").unwrap();
-    println!("cargo:rustc-link-search=native={root}/../target/staticlib");
+    println!("cargo:rustc-link-search=native={root}/../crates/controller/out");
     println!("cargo:rustc-link-lib=static=controller");
-    println!("cargo:rerun-if-changed=../target/staticlib/libcontroller.a");
+    println!("cargo:rerun-if-changed=../crates/controller/out/libcontroller.a");
 }

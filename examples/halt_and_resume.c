@@ -1,6 +1,6 @@
 /* Drafts a part of a slope of grey, halts, resumes in other bands, finishes, and prints the draft and its totals.
 
-   cc -Iinclude examples/halt_and_resume.c target/staticlib/libcontroller.a -o target/halt_and_resume && target/halt_and_resume */
+   cc -Iinclude examples/halt_and_resume.c crates/controller/out/libcontroller.a -o crates/controller/out/halt_and_resume && crates/controller/out/halt_and_resume */
 #include <stdio.h>
 #include <stdlib.h>
 #include <string.h>

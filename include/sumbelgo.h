@@ -1,6 +1,6 @@
 /* Sumbelgo for controllers in C: grey drawings, Knuth's plan, a threshold.
 
-   Link target/staticlib/libcontroller.a, which `rt staticlib controller` writes.
+   Link crates/controller/out/libcontroller.a, which `rt lib` in crates/controller writes.
 
    A job is three bands that the caller owns, each with one entry for each square, row by row, so that the square at a row and a column has the
    place row * columns + column:

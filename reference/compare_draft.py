@@ -4,7 +4,7 @@
 The inputs are pictures of many sizes, plain, shaded and random from a fixed seed; files that are laid out oddly; and files that are refused,
 where the program must write nothing to standard output or standard error and end with status 1.
 
-usage: compare_draft.py [PROGRAM]        (target/bin/draft where none is named)
+usage: compare_draft.py [PROGRAM]        (crates/draft/out/draft where none is named)
 """
 import random
 import subprocess
@@ -76,7 +76,7 @@ def expected(data):
 
 
 def main():
-    program = sys.argv[1] if len(sys.argv) > 1 else 'target/bin/draft'
+    program = sys.argv[1] if len(sys.argv) > 1 else 'crates/draft/out/draft'
     chance = random.Random(1987)
     drafted = turned_away = 0
     for data in [*pictures(chance), *laid_out(chance), *refused()]:

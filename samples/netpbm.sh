@@ -1,6 +1,6 @@
 #!/bin/sh
 # Tries the program draft against Netpbm's own tools: files that they write are read by draft, and they read what draft wrote.
-# usage: samples/netpbm.sh, from the root of the repository, after `rt check draft`. Not part of the gate.
+# usage: samples/netpbm.sh, from the root of the repository, after `rt run` in crates/draft. Not part of the gate.
 set -e
 for tool in pnmtoplainpnm pgmramp pamscale pamfile pbmtoascii pnmtopng pngtopnm; do
     if ! command -v $tool > /dev/null; then
@@ -13,7 +13,7 @@ trap 'rm -r "$work"' EXIT
 
 # Drafts the plain PGM at $1 and compares with the reference; the draft stands at $work/draft.pbm.
 drafted() {
-    target/bin/draft < "$1" > "$work/draft.pbm"
+    crates/draft/out/draft < "$1" > "$work/draft.pbm"
     reference/draft.py < "$1" | cmp - "$work/draft.pbm"
 }
 
