@@ -15,6 +15,8 @@ use fault::Fault;
 use list::{Worklist, part};
 use printing::print_outcome;
 use reading::{nothing_told, read_line};
+use std::alloc::Global;
+use std::io::{BufRead, BufReader, Stdin};
 use std::process::ExitCode;
 use working::work_job;
 
@@ -26,11 +28,10 @@ struct Misread {
 }
 
 // Reads all lines, up to the first that cannot be read.
-fn read_all(rt: &HostRuntime) -> Result<Worklist, Misread> {
-    let heap = rt.alloc();
+fn read_all(heap: Global, input: BufReader<Stdin>) -> Result<Worklist, Misread> {
     let mut list = nothing_told(heap);
     let mut line = 0usize;
-    for text in rt.lines(heap) {
+    for text in input.lines(heap) {
         line = line.saturating_add(1);
         let Ok(text) = text else {
             return Err(Misread {
@@ -73,7 +74,8 @@ fn work_all(rt: &HostRuntime, list: &Worklist) -> anyhow::Result<()> {
 
 // Works nothing unless every line can be read; a line that cannot be is told in one line on standard error.
 fn main(rt: HostRuntime) -> anyhow::Result<ExitCode> {
-    match read_all(&rt) {
+    let input = BufReader::new(rt.alloc(), rt.stdin())?;
+    match read_all(rt.alloc(), input) {
         Ok(list) => {
             work_all(&rt, &list)?;
             Ok(ExitCode::SUCCESS)

@@ -70,7 +70,7 @@ impl Quantiser for Palette {
     ghost sound = { λ q.
         record {
           some = q.some;
-          few = omega (arith, q.few);
+          few = Prim.omega (arith, q.few);
           within = λ x. least-within (λ k. distance x (entry_of q k)) q.len q.some;
           lacking = λ c h. cond-false _ _ _ (le-ltb c q.len h);
         } };
