@@ -1,7 +1,7 @@
 use Rattle.std.proofs.Common.{refl, ap, ◌∙◌, subst₂}
 use Rattle.std.proofs.lemmas.Bool.{both_ways}
 use Rattle.grid.specs.Limits.{Within, within}
-use Rattle.grid.proofs.Deciding.{within_true, WithinFrom}
+use Rattle.grid.proofs.Deciding.{within_true, Within-from}
 use Rattle.controller.specs.Exports.{answer}
 use Rattle.controller.specs.Packing.{PackedAt}
 use Rattle.controller.proofs.pack.sumbelgo_pack.Goals as goal
@@ -24,7 +24,7 @@ pub returns-in-Err : goal.returns-in-Err
 returns-in-Err c =
     let e = c.in-Err.ensures in
     record {
-      inside = λ w. absurd (e.1 (WithinFrom c.args.rows c.args.columns w));
+      inside = λ w. absurd (e.1 (Within-from c.args.rows c.args.columns w));
       refused = λ f. c.refused.ensures ∙ ap (answer 0) e.0;
       kept = λ f. refl;
     }
