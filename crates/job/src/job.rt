@@ -16,7 +16,6 @@ mod open;
 mod replay;
 mod resume;
 mod spread;
-mod take;
 mod tally;
 
 // The fields are private: a job whose plan were exchanged would no longer be the one that was opened.

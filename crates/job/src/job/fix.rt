@@ -1,10 +1,11 @@
 // Fix: one square, by its row and column.
-ghost use Rattle.std.specs.Prelude.{◌≡◌, ◌+◌, ◌*◌, ◌<◌, length};
+ghost use Rattle.std.specs.Prelude.{◌≡◌, ◌+◌, ◌*◌, ◌<◌, ◌≤◌, length};
 ghost use Rattle.model.specs.Calls.{told};
 ghost use Rattle.model.specs.Steps.{fix_on};
 ghost use Rattle.job.specs.Answers.{coded};
 ghost use Rattle.job.specs.Meaning.{squares_of, meant, setting_by, band};
 ghost use Rattle.job.specs.Patterns.{PatternOf};
+ghost use Rattle.job.specs.Progress.{progress, taken};
 ghost use Rattle.job.specs.Single.{attempt};
 
 use crate::job::Job;
@@ -13,8 +14,37 @@ use crate::pattern::Pattern;
 use plan::Plan;
 use quantiser::Quantiser;
 use refusal::Refusal;
+use tone::Tone;
 
 impl<P: Plan, Q: Quantiser> Job<P, Q> {
+    // Fixes the square at a place, whose pattern is told, if it is open, and answers how many were fixed: 1 or 0. Its neighbours are not asked:
+    // Fix has asked them before, and Finish need not.
+    pub(crate) fn take(
+        &self,
+        amounts: &mut [Q::Tone],
+        codes: &mut [u8],
+        place: usize,
+        pattern: &Pattern,
+    ) -> usize
+        requires inside { place < self.now.size.rows * self.now.size.columns }
+        requires amounts { length amounts.old ≡ self.now.size.rows * self.now.size.columns }
+        requires codes { length codes.old ≡ self.now.size.rows * self.now.size.columns }
+        requires pattern { PatternOf (squares_of P.Plan.meaning self.now) place pattern.now.kinds pattern.now.weights pattern.now.last }
+        ensures few { result ≤ 1 }
+        ensures after { progress result (band codes.new amounts.new) ≡ taken (setting_by Q.Tone.Tone.algebra P.Plan.meaning Q.Quantiser.tables self.now) place (band codes.old amounts.old) }
+    {
+        if codes[place] != OPEN {
+            return 0;
+        }
+        let amount = amounts[place];
+        let code = self.quantiser.choose(amount);
+        let error = amount.difference(self.quantiser.output(code));
+        codes[place] = code;
+        amounts[place] = error;
+        self.spread(amounts, place, pattern, error);
+        1
+    }
+
     // Fixes the square at a place, whose pattern is told, on bands of the right length: 4 where it is fixed, 5 where a lower neighbour is open.
     pub(crate) fn settle(
         &self,
