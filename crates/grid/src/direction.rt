@@ -2,20 +2,21 @@
 ghost use Rattle.std.specs.Prelude.{◌≡◌};
 ghost use Rattle.grid.specs.Directions.{number_of, weight, down, across};
 
-#[derive(Clone, Copy)]
+// Each stands with its place in the order, from 0.
+#[derive(Clone, Copy, PartialEq, Eq, Debug)]
 pub enum Direction {
-    N,
-    Ne,
-    E,
-    Se,
-    S,
-    Sw,
-    W,
-    Nw,
+    N = 0,
+    Ne = 1,
+    E = 2,
+    Se = 3,
+    S = 4,
+    Sw = 5,
+    W = 6,
+    Nw = 7,
 }
 
 // What a direction does to a row or to a column: one less, the same, one more.
-#[derive(Clone, Copy)]
+#[derive(Clone, Copy, PartialEq, Eq, Debug)]
 pub enum Step {
     Back,
     Stay,
@@ -23,20 +24,23 @@ pub enum Step {
 }
 
 impl Direction {
+    // All eight, in their order.
+    pub const ALL: [Direction; 8] = [
+        Direction::N,
+        Direction::Ne,
+        Direction::E,
+        Direction::Se,
+        Direction::S,
+        Direction::Sw,
+        Direction::W,
+        Direction::Nw,
+    ];
+
     // Where the direction stands in the order, from 0.
     pub fn number(self) -> u8
         ensures { result ≡ number_of self }
     {
-        match self {
-            Direction::N => 0,
-            Direction::Ne => 1,
-            Direction::E => 2,
-            Direction::Se => 3,
-            Direction::S => 4,
-            Direction::Sw => 5,
-            Direction::W => 6,
-            Direction::Nw => 7,
-        }
+        self as u8
     }
 
     // 2 by a side, 1 by a corner.

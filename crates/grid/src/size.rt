@@ -5,7 +5,7 @@ ghost use Rattle.grid.specs.Limits.{Refused};
 
 use refusal::Refusal;
 
-#[derive(Clone, Copy)]
+#[derive(Clone, Copy, PartialEq, Eq, Debug)]
 pub struct Size {
     pub rows: usize,
     pub columns: usize,

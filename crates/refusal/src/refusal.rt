@@ -5,41 +5,41 @@ ghost use Rattle.refusal.specs.Numbers.{number_of};
 #[derive(Clone, Copy, PartialEq, Eq, Debug)]
 pub enum Refusal {
     // A drawing has not 1 to 4,096 rows, 1 to 4,096 columns and at most 1,048,576 squares.
-    SizeOutsideLimits,
+    SizeOutsideLimits = 1,
     // A band is not as long as the drawing has squares.
-    BandLength,
+    BandLength = 2,
     // A place lies outside the drawing.
-    OutsideDrawing,
+    OutsideDrawing = 3,
     // A square is fixed already.
-    SquareFixed,
+    SquareFixed = 4,
     // A neighbour of lower rank is open.
-    LowerNeighbourOpen,
+    LowerNeighbourOpen = 5,
     // An output is too short for what is to be written.
-    OutputTooShort,
+    OutputTooShort = 6,
     // A record has another size, a spare bit standing or another length than is due.
-    RecordMalformed,
+    RecordMalformed = 7,
     // A standing square of a record has a lower neighbour that does not stand.
-    LowerNeighbourMissing,
+    LowerNeighbourMissing = 8,
     // A code of a record is not the definition's.
-    WrongCode,
+    WrongCode = 9,
     // A square is open, where only fixed ones can be written.
-    SquareOpen,
+    SquareOpen = 10,
     // A square has a code above 1, which a bit cannot hold.
-    CodeAboveOne,
+    CodeAboveOne = 11,
     // A file does not begin with P2 and a separator.
-    NotPlainPgm,
+    NotPlainPgm = 12,
     // A number is missing, malformed or above 65,535.
-    NotANumber,
+    NotANumber = 13,
     // A sample is above the greatest one, or the greatest one is outside 1 to 255.
-    SampleOutsideRange,
+    SampleOutsideRange = 14,
     // A period, an order or a byte count is outside its limits.
-    OutsideLimits,
+    OutsideLimits = 16,
     // Two squares that touch have equal ranks.
-    TouchingEqualRanks,
+    TouchingEqualRanks = 17,
     // A palette has not 1 to 16 colours of three bytes.
-    PaletteLength,
+    PaletteLength = 18,
     // Side by side, the product of the counts is above 254.
-    TooManyCodes,
+    TooManyCodes = 19,
 }
 
 impl Refusal {
@@ -47,25 +47,6 @@ impl Refusal {
     pub fn number(self) -> u8
         ensures { result ≡ number_of self }
     {
-        match self {
-            Refusal::SizeOutsideLimits => 1,
-            Refusal::BandLength => 2,
-            Refusal::OutsideDrawing => 3,
-            Refusal::SquareFixed => 4,
-            Refusal::LowerNeighbourOpen => 5,
-            Refusal::OutputTooShort => 6,
-            Refusal::RecordMalformed => 7,
-            Refusal::LowerNeighbourMissing => 8,
-            Refusal::WrongCode => 9,
-            Refusal::SquareOpen => 10,
-            Refusal::CodeAboveOne => 11,
-            Refusal::NotPlainPgm => 12,
-            Refusal::NotANumber => 13,
-            Refusal::SampleOutsideRange => 14,
-            Refusal::OutsideLimits => 16,
-            Refusal::TouchingEqualRanks => 17,
-            Refusal::PaletteLength => 18,
-            Refusal::TooManyCodes => 19,
-        }
+        self as u8
     }
 }
