@@ -3,7 +3,11 @@
 
 mod direction;
 mod neighbour;
+mod reading;
 mod size;
+mod square;
 
 pub use direction::{Direction, Step};
+pub use reading::ReadingOrder;
 pub use size::Size;
+pub use square::Square;

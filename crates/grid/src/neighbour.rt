@@ -14,9 +14,9 @@ fn stepped(at: usize, count: usize, to: Step) -> Option<usize>
     ensures bound { MatchOption result Unit (λ x. x < count) }
 {
     match to {
-        Step::Back => { if at > 0 { Some(at - 1) } else { None } }
+        Step::Back => at.checked_sub(1),
         Step::Stay => Some(at),
-        Step::Ahead => { if at + 1 < count { Some(at + 1) } else { None } }
+        Step::Ahead => (at + 1 < count).then_some(at + 1),
     }
 }
 
