@@ -13,7 +13,7 @@ use Rattle.diffusion.specs.Drawings.{plain_drawing}
 use Rattle.diffusion.specs.Neighbourhoods.{Neighbourhood, keep, lower, higher, weights, last}
 use Rattle.diffusion.proofs.Lines.{by_eight, lays_out}
 use Rattle.diffusion.proofs.Neighbours.{lower-within, higher-within}
-use Rattle.job.specs.Patterns.{compared, kind_by, kind_of, kind_at, beside, kind_weight, kinds_weight, kind_last, kinds_last, PatternOf, lower_place, higher_place}
+use Rattle.job.specs.Patterns.{compared, kind_by, kind_of, kind_at, beside, kind_weight, kinds_weight, kind_last, kinds_last, lower_place, higher_place}
 use Rattle.job.specs.declared.kind.Kind.{Kind}
 use Rattle.job.specs.declared.kind.Kind.TheVariants.{Neither, Lower, Higher}
 
@@ -155,23 +155,19 @@ module _ (rows columns : ℕ) (plan : Ranks) (law : plans.Lawful plan) (s : ℕ)
   last_kind Lower t n before = refl
   last_kind Higher t n before = refl
 
-  weights-told : (n : ℕ) → n ≤ 8 → kinds_weight ks n ≡ weights (plain_drawing rows columns plan) s n
+  pub weights-told : (n : ℕ) → n ≤ 8 → kinds_weight ks n ≡ weights (plain_drawing rows columns plan) s n
   unfolding kinds_weight weights
   weights-told zero l = refl
   weights-told (suc n) l =
       ap₂ ◌+◌ (weights-told n (omega arith))
       (weight_kind (get_or ks n Neither) (beside columns s n) n ∙ ap (λ o. cond (is_some o) (weight n) 0) (sym (higher-told n (omega arith))))
 
-  last-told : (n : ℕ) → n ≤ 8 → kinds_last ks n ≡ last (plain_drawing rows columns plan) s n
+  pub last-told : (n : ℕ) → n ≤ 8 → kinds_last ks n ≡ last (plain_drawing rows columns plan) s n
   unfolding kinds_last last
   last-told zero l = refl
   last-told (suc n) l =
       last_kind (get_or ks n Neither) (beside columns s n) n (kinds_last ks n)
       ∙ ap₂ (λ o before. cond (is_some o) n before) (sym (higher-told n (omega arith))) (last-told n (omega arith))
-
-  -- kinds that are right make the pattern right
-  pub pattern_told : PatternOf (plain_drawing rows columns plan) s ks (kinds_weight ks 8) (kinds_last ks 8)
-  pattern_told = record { kinds = kinds; weights = weights-told 8 (omega arith); last = last-told 8 (omega arith) }
 
   -- a lower neighbour, where the kind says so and only there
   pub lower_some : (d : ℕ) → d < 8 → get_or ks d Neither ≡ Lower → lower (plain_drawing rows columns plan) s d ≡ Some (beside columns s d)

@@ -2,7 +2,8 @@ pub mod AnyDrawing
 pub mod Around
 pub mod Attempts
 pub mod Barons
-pub mod Fitting
+pub mod Eight
+mod Fitting
 pub mod Forms
 pub mod Kept
 pub mod KindLists

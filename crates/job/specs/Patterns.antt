@@ -1,10 +1,12 @@
 -- What lies around a square, without places: for each direction whether the neighbour is lower, higher, or there is none.
 use Rattle.std.specs.Prelude.{◌≡◌, ℕ, zero, suc, ◌+◌, ◌-◌, ◌<◌, cond, List, [], ◌∷◌, Some, None, Option, nat_lt, slice_index, slice_index_or}
 use Rattle.plan.specs.Ranks.{Ranks}
-use Rattle.grid.specs.Directions.{weight}
+use Rattle.grid.specs.Directions.{number_of, weight}
+use Rattle.grid.specs.declared.direction.Direction.{Direction}
 use Rattle.diffusion.specs.Neighbourhoods.{Neighbourhood, weights, last}
 use Rattle.job.specs.declared.kind.Kind.{Kind}
 use Rattle.job.specs.declared.kind.Kind.TheVariants.{Neither, Lower, Higher}
+use Rattle.job.specs.declared.pattern.Pattern.{Pattern}
 
 -- a rank beside a square's own
 abbrev pub compared : ℕ → ℕ → Kind
@@ -50,11 +52,17 @@ unfoldable pub kinds_last : List Kind → ℕ → ℕ
 kinds_last ks zero = 8
 kinds_last ks (suc n) = kind_last (slice_index_or ks n Neither) n (kinds_last ks n)
 
--- the pattern of s
-pub record PatternOf (squares : Neighbourhood) (s : ℕ) (ks : List Kind) (w l : ℕ) : Type 0 where
-  pub kinds : (d : ℕ) → d < 8 → slice_index_or ks d Neither ≡ kind_of squares s d
-  pub weights : w ≡ weights squares s 8
-  pub last : l ≡ last squares s 8
+-- a last direction as its number; 8 where there is none
+abbrev pub last_number : Option Direction → ℕ
+last_number None = 8
+last_number (Some direction) = number_of direction
+
+-- the pattern of a square s of the drawing
+pub record PatternOf (squares : Neighbourhood) (s : ℕ) (pattern : Pattern) : Type 0 where
+  pub inside : s < squares.count
+  pub kinds : (d : ℕ) → d < 8 → slice_index_or pattern.kinds d Neither ≡ kind_of squares s d
+  pub weights : pattern.weights ≡ weights squares s 8
+  pub last : last_number pattern.last ≡ last squares s 8
 
 -- the place of a lower neighbour, or of a higher one, by what lies there
 abbrev pub lower_place : Kind → ℕ → Option ℕ

@@ -1,24 +1,33 @@
 // What lies around a square, without places: squares a whole period apart inside a drawing have the same pattern.
-ghost use Rattle.std.specs.Prelude.{◌≡◌, ◌<◌, length, slice_index_or};
+ghost use Rattle.std.specs.Prelude.{◌≡◌, length, slice_index_or};
+ghost use Rattle.grid.specs.Directions.{number_of};
 ghost use Rattle.job.specs.declared.kind.Kind.TheVariants.{Neither};
 
 use crate::kind::Kind;
+use grid::Direction;
 
-// The kinds by direction, the weights of the higher ones added, and the last direction of a higher one; 8 where there is none.
+// What lies in a direction, of eight kinds by direction.
+pub fn kind_in(kinds: &[Kind; 8], direction: Direction) -> Kind
+    requires { length kinds.now ≡ 8 }
+    ensures { result ≡ slice_index_or kinds.now (number_of direction) Neither }
+{
+    kinds[direction as usize]
+}
+
+// The kinds by direction, the weights of the higher ones added, and the last direction of a higher one, if there is one.
 #[derive(Clone, Copy)]
 pub struct Pattern {
     pub kinds: [Kind; 8],
     pub weights: u8,
-    pub last: usize,
+    pub last: Option<Direction>,
     ghost full: { length kinds ≡ 8 },
 }
 
 impl Pattern {
-    // What lies in a direction, told by its number.
-    pub fn kind(&self, direction: usize) -> Kind
-        requires { direction < 8 }
-        ensures { result ≡ slice_index_or self.now.kinds direction Neither }
+    // What lies in a direction.
+    pub fn kind(&self, direction: Direction) -> Kind
+        ensures { result ≡ slice_index_or self.now.kinds (number_of direction) Neither }
     {
-        self.kinds[direction]
+        kind_in(&self.kinds, direction)
     }
 }

@@ -14,7 +14,7 @@ impl<P: Plan, Q: Quantiser> Job<P, Q> {
         requires column { column < self.now.size.columns }
         ensures { result ≡ baron (squares_of P.Plan.meaning self.now) (row * self.now.size.columns + column) }
     {
-        self.pattern(row, column).last == 8
+        self.pattern(row, column).last.is_none()
     }
 
     // Whether a square with this code is fixed and a baron, so that its error is lost.

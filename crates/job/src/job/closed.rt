@@ -1,51 +1,16 @@
 // Whether the standing squares of a record could be those of a job: with a square stand its lower neighbours.
 ghost use Rattle.std.specs.Prelude.{◌≡◌, ◌+◌, ◌*◌, ◌<◌, ◌≤◌, true, length};
 ghost use Rattle.bits.specs.Bits.{bytes_for};
-ghost use Rattle.diffusion.specs.Neighbourhoods.{lower};
-ghost use Rattle.diffusion.specs.Sets.{okay, ready_by};
 ghost use Rattle.model.specs.Records.{stands, all_below, closed_by};
 ghost use Rattle.job.specs.Meaning.{squares_of};
-ghost use Rattle.job.specs.Patterns.{PatternOf};
 ghost use Rattle.job.specs.Maps.{may_stand};
 
-use crate::beside::place_beside;
 use crate::form::is_standing;
 use crate::job::Job;
-use crate::kind::Kind;
-use crate::pattern::Pattern;
 use plan::Plan;
 use quantiser::Quantiser;
 
 impl<P: Plan, Q: Quantiser> Job<P, Q> {
-    // Whether the lower neighbour in a direction stands, if there is one.
-    fn lower_stands(&self, saved: &[u8], place: usize, pattern: &Pattern, direction: usize) -> bool
-        requires inside { place < self.now.size.rows * self.now.size.columns }
-        requires saved { 4 + bytes_for (self.now.size.rows * self.now.size.columns) ≤ length saved.now }
-        requires direction { direction < 8 }
-        requires pattern { PatternOf (squares_of P.Plan.meaning self.now) place pattern.now.kinds pattern.now.weights pattern.now.last }
-        ensures { result ≡ okay (stands saved.now) (lower (squares_of P.Plan.meaning self.now) place direction) }
-    {
-        match pattern.kind(direction) {
-            Kind::Lower => is_standing(saved, place_beside(place, self.size.columns, direction)),
-            _ => true,
-        }
-    }
-
-    // Whether all lower neighbours of a square stand.
-    fn all_lower_stand(&self, saved: &[u8], place: usize, pattern: &Pattern) -> bool
-        requires inside { place < self.now.size.rows * self.now.size.columns }
-        requires saved { 4 + bytes_for (self.now.size.rows * self.now.size.columns) ≤ length saved.now }
-        requires pattern { PatternOf (squares_of P.Plan.meaning self.now) place pattern.now.kinds pattern.now.weights pattern.now.last }
-        ensures { result ≡ ready_by (squares_of P.Plan.meaning self.now) (stands saved.now) place 8 }
-    {
-        for d in 0..8 {
-            if !self.lower_stands(saved, place, pattern, d) {
-                return false;
-            }
-        }
-        true
-    }
-
     // Whether a square may stand as the record has it: it does not stand, or all its lower neighbours do.
     fn is_square_closed(&self, saved: &[u8], row: usize, column: usize) -> bool
         requires row { row < self.now.size.rows }
@@ -58,7 +23,7 @@ impl<P: Plan, Q: Quantiser> Job<P, Q> {
             return true;
         }
         let pattern = self.pattern(row, column);
-        self.all_lower_stand(saved, place, &pattern)
+        self.is_ready(|at| is_standing(saved, at), place, &pattern)
     }
 
     // Whether the squares of a row may stand as the record has them, where those of the rows above may.

@@ -33,11 +33,10 @@ impl<P: Plan, Q: Quantiser> Job<P, Q> {
         place: usize,
         pattern: &Pattern,
     ) -> usize
-        requires inside { place < self.now.size.rows * self.now.size.columns }
         requires lower { LowerStand (squares_of P.Plan.meaning self.now) ((squares_of P.Plan.meaning self.now).rank place) codes.old }
         requires amounts { length amounts.old ≡ self.now.size.rows * self.now.size.columns }
         requires codes { length codes.old ≡ self.now.size.rows * self.now.size.columns }
-        requires pattern { PatternOf (squares_of P.Plan.meaning self.now) place pattern.now.kinds pattern.now.weights pattern.now.last }
+        requires pattern { PatternOf (squares_of P.Plan.meaning self.now) place pattern.now }
         ensures few { result ≤ 1 }
         ensures after { progress result (band codes.new amounts.new) ≡ visited (setting_by Q.Tone.Tone.algebra P.Plan.meaning Q.Quantiser.tables self.now) ((squares_of P.Plan.meaning self.now).rank place) place (band codes.old amounts.old) }
     {

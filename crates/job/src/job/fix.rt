@@ -26,10 +26,9 @@ impl<P: Plan, Q: Quantiser> Job<P, Q> {
         place: usize,
         pattern: &Pattern,
     ) -> usize
-        requires inside { place < self.now.size.rows * self.now.size.columns }
         requires amounts { length amounts.old ≡ self.now.size.rows * self.now.size.columns }
         requires codes { length codes.old ≡ self.now.size.rows * self.now.size.columns }
-        requires pattern { PatternOf (squares_of P.Plan.meaning self.now) place pattern.now.kinds pattern.now.weights pattern.now.last }
+        requires pattern { PatternOf (squares_of P.Plan.meaning self.now) place pattern.now }
         ensures few { result ≤ 1 }
         ensures after { progress result (band codes.new amounts.new) ≡ taken (setting_by Q.Tone.Tone.algebra P.Plan.meaning Q.Quantiser.tables self.now) place (band codes.old amounts.old) }
     {
@@ -53,16 +52,15 @@ impl<P: Plan, Q: Quantiser> Job<P, Q> {
         place: usize,
         pattern: &Pattern,
     ) -> Result<u8, Refusal>
-        requires inside { place < self.now.size.rows * self.now.size.columns }
         requires amounts { length amounts.old ≡ self.now.size.rows * self.now.size.columns }
         requires codes { length codes.old ≡ self.now.size.rows * self.now.size.columns }
-        requires pattern { PatternOf (squares_of P.Plan.meaning self.now) place pattern.now.kinds pattern.now.weights pattern.now.last }
+        requires pattern { PatternOf (squares_of P.Plan.meaning self.now) place pattern.now }
         ensures { told (coded result) (band codes.new amounts.new) ≡ attempt (setting_by Q.Tone.Tone.algebra P.Plan.meaning Q.Quantiser.tables self.now) place (band codes.old amounts.old) }
     {
         if codes[place] != OPEN {
             return Err(Refusal::SquareFixed);
         }
-        if !self.is_ready(codes, place, pattern) {
+        if !self.is_ready(|at| codes[at] != OPEN, place, pattern) {
             return Err(Refusal::LowerNeighbourOpen);
         }
         let _ = self.take(amounts, codes, place, pattern);

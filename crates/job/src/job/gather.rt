@@ -1,23 +1,16 @@
 // The pattern of a square: each rank is asked once.
 ghost use Rattle.std.specs.Prelude.{◌≡◌, ℕ, ◌+◌, ◌*◌, ◌<◌, ◌≤◌, length};
-ghost use Rattle.grid.specs.Directions.{number_of, down, across, weight as weight_of};
+ghost use Rattle.grid.specs.Directions.{number_of, down, across};
 ghost use Rattle.grid.specs.Lines.{plain, step};
 ghost use Rattle.job.specs.Meaning.{squares_of};
-ghost use Rattle.job.specs.Patterns.{kind_at, kinds_weight, kinds_last, PatternOf};
+ghost use Rattle.job.specs.Patterns.{kind_at, kinds_weight, kinds_last, last_number, PatternOf};
 
 use crate::job::Job;
 use crate::kind::Kind;
-use crate::pattern::Pattern;
+use crate::pattern::{Pattern, kind_in};
 use grid::Direction;
 use plan::Plan;
 use quantiser::Quantiser;
-
-// The weight of a direction, told by its number.
-fn weight(direction: usize) -> u8
-    ensures { result ≡ weight_of direction }
-{
-    if direction % 2 == 0 { 2 } else { 1 }
-}
 
 // The weights of the higher neighbours, added.
 fn weights_of(kinds: &[Kind; 8]) -> u8
@@ -25,23 +18,23 @@ fn weights_of(kinds: &[Kind; 8]) -> u8
     ensures { result ≡ kinds_weight kinds.now 8 }
 {
     let mut weights = 0;
-    for d in 0..8 {
-        if let Kind::Higher = kinds[d] {
-            weights += weight(d);
+    for direction in Direction::ALL {
+        if let Kind::Higher = kind_in(kinds, direction) {
+            weights += direction.weight();
         }
     }
     weights
 }
 
-// The last direction of a higher neighbour; 8 where there is none.
-fn last_of(kinds: &[Kind; 8]) -> usize
+// The last direction of a higher neighbour, if there is one.
+fn last_of(kinds: &[Kind; 8]) -> Option<Direction>
     requires { length kinds.now ≡ 8 }
-    ensures { result ≡ kinds_last kinds.now 8 }
+    ensures { last_number result ≡ kinds_last kinds.now 8 }
 {
-    let mut last = 8;
-    for d in 0..8 {
-        if let Kind::Higher = kinds[d] {
-            last = d;
+    let mut last = None;
+    for direction in Direction::ALL {
+        if let Kind::Higher = kind_in(kinds, direction) {
+            last = Some(direction);
         }
     }
     last
@@ -74,7 +67,7 @@ impl<P: Plan, Q: Quantiser> Job<P, Q> {
     pub(crate) fn pattern(&self, row: usize, column: usize) -> Pattern
         requires row { row < self.now.size.rows }
         requires column { column < self.now.size.columns }
-        ensures { PatternOf (squares_of P.Plan.meaning self.now) (row * self.now.size.columns + column) result.kinds result.weights result.last }
+        ensures { PatternOf (squares_of P.Plan.meaning self.now) (row * self.now.size.columns + column) result }
     {
         let own = self.plan.rank(row, column);
         let kinds = [

@@ -21,10 +21,9 @@ impl<P: Plan, Q: Quantiser> Job<P, Q> {
         place: usize,
         pattern: &Pattern,
     ) -> bool
-        requires inside { place < self.now.size.rows * self.now.size.columns }
         requires amounts { length amounts.old ≡ self.now.size.rows * self.now.size.columns }
         requires codes { length codes.now ≡ self.now.size.rows * self.now.size.columns }
-        requires pattern { PatternOf (squares_of P.Plan.meaning self.now) place pattern.now.kinds pattern.now.weights pattern.now.last }
+        requires pattern { PatternOf (squares_of P.Plan.meaning self.now) place pattern.now }
         ensures { kept_if result amounts.new ≡ replay_at (setting_by Q.Tone.Tone.algebra P.Plan.meaning Q.Quantiser.tables self.now) codes.now place amounts.old }
     {
         let amount = amounts[place];

@@ -7,7 +7,7 @@ use Rattle.job.specs.Meaning.{squares_of}
 use Rattle.job.specs.Patterns.{kind_of, kind_at}
 use Rattle.job.specs.declared.kind.Kind.{Kind}
 use Rattle.job.specs.declared.kind.Kind.TheVariants.{Neither}
-use Rattle.job.proofs.Around.{kind_here, pattern_told}
+use Rattle.job.proofs.Around.{kind_here, weights-told, last-told}
 use Rattle.job.proofs.job.Job.pattern.Goals as goal
 
 pub returns : goal.returns
@@ -30,5 +30,9 @@ returns g c =
     = by_eight (λ d. get_or ks d Neither ≡ kind_of squares s d)
     (one 0 _ c.kind.ensures) (one 1 _ c.kind-2.ensures) (one 2 _ c.kind-3.ensures) (one 3 _ c.kind-4.ensures)
     (one 4 _ c.kind-5.ensures) (one 5 _ c.kind-6.ensures) (one 6 _ c.kind-7.ensures) (one 7 _ c.kind-8.ensures) in
-    let told = pattern_told rows columns plan law s inside ks kinds in
-    record { kinds = kinds; weights = c.weights_of-weights.ensures ∙ told.weights; last = c.last_of-last.ensures ∙ told.last }
+    record {
+      inside = inside;
+      kinds = kinds;
+      weights = c.weights_of-weights.ensures ∙ weights-told rows columns plan law s inside ks kinds 8 (omega arith);
+      last = c.last_of-last.ensures ∙ last-told rows columns plan law s inside ks kinds 8 (omega arith);
+    }

@@ -1,16 +1,22 @@
-use Rattle.std.proofs.Common.{sym, ◌∙◌}
+use Rattle.std.proofs.Common.{◌≡◌, get_or, sym, ap, ◌∙◌}
+use Rattle.grid.specs.Directions.{number_of}
+use Rattle.job.specs.Patterns.{last_number}
+use Rattle.job.specs.declared.kind.Kind.TheVariants.{Neither}
+use Rattle.job.proofs.Eight.{nth, numbered}
 use Rattle.job.proofs.KindLists.{last_none, last-higher, last_other}
 use Rattle.job.proofs.job.gather.last_of.Goals as goal
 use Rattle.job.proofs.job.gather.last_of.Goals.{in-Higher, in_default}
 
-pub loop-d-init : goal.loop-d-init
-loop-d-init c = sym (last_none c.args.kinds.now)
+pub loop-direction-init : goal.loop-direction-init
+loop-direction-init c = sym (last_none c.args.kinds.now)
 
-pub loop-d-preserved : goal.loop-d-preserved
-loop-d-preserved c =
+pub loop-direction-preserved : goal.loop-direction-preserved
+loop-direction-preserved c =
     let ks = c.args.kinds.now in
-    let d = c.loop-d.d in
-    elim c.match-kinds-d.branch [
-      | in-Higher w ↦ w.last-is ∙ sym (last-higher ks d w.in-Higher.is)
-      | in_default w ↦ w.last-is ∙ c.loop-d.invariant ∙ sym (last_other ks d w.in_default.not-Higher)
+    let d = c.loop-direction.direction-index in
+    let is : number_of (nth d) ≡ d = numbered d c.loop-direction-test.true in
+    let read : c.kind_in.result ≡ get_or ks d Neither = c.kind_in.ensures ∙ ap (λ n. get_or ks n Neither) is in
+    elim c.match-kind_in.branch [
+      | in-Higher w ↦ ap last_number w.last-is ∙ is ∙ sym (last-higher ks d (sym read ∙ w.in-Higher.is))
+      | in_default w ↦ ap last_number w.last-is ∙ c.loop-direction.invariant ∙ sym (last_other ks d (λ h. w.in_default.not-Higher (read ∙ h)))
     ]
