@@ -1,7 +1,7 @@
 // The squares of a drawing in reading order. A loop over them counts no row and no column by hand, and divides nothing.
 ghost use Rattle.std.specs.Prelude.{◌≡◌, ◌+◌, ◌-◌, ◌*◌, ◌<◌, ◌≤◌, MatchOption};
 ghost use Rattle.std.specs.Iterator.{at_most};
-ghost use Rattle.grid.specs.Squares.{Inside};
+ghost use Rattle.grid.specs.Squares.{Comes};
 
 use crate::size::Size;
 use crate::square::Square;
@@ -23,7 +23,7 @@ impl Iterator for ReadingOrder {
     type Item = Square;
 
     // The squares come by rising place, each with its row and column, until all have come.
-    ghost next_gives = { λ s r t. (t.size ≡ s.size) × MatchOption r (s.place ≡ s.size.rows * s.size.columns) (λ q. Inside s.size q × (q.place ≡ s.place) × (t.place ≡ s.place + 1)) };
+    ghost next_gives = { λ s r t. (t.size ≡ s.size) × MatchOption r (s.place ≡ s.size.rows * s.size.columns) (Comes s.size s.place t.place) };
 
     ghost remaining = { λ s. at_most (s.size.rows * s.size.columns - s.place) };
 

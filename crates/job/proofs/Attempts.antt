@@ -1,7 +1,7 @@
 -- An attempt to fix one square, by its outcome.
-use Rattle.std.proofs.Common.{◌≡◌, ℕ, suc, ◌<◌, ◌≤◌, Bool, true, false, not, ◌&&◌, ltb, List, length, get_or, sym, refl, ap, ◌∙◌, arith}
+use Rattle.std.proofs.Common.{◌≡◌, ℕ, suc, ◌<◌, true, false, not, ◌&&◌, ltb, List, length, get_or, sym, refl, ap, ◌∙◌, inl, inr, arith}
 use Rattle.std.proofs.lemmas.List.{get_or_default}
-use Rattle.std.proofs.lemmas.Bool.{eq-eqb, ne_eqb, le-ltb, cond-true, cond-false}
+use Rattle.std.proofs.lemmas.Bool.{eq-eqb, ne_eqb, cases_lt, lt-ltb, le-ltb, cond-true, cond-false}
 use Rattle.diffusion.specs.Bands.{Bands, standing, fixed_in}
 use Rattle.diffusion.specs.Draft.{Setting}
 use Rattle.model.specs.Calls.{Answer, told, fix_at}
@@ -34,15 +34,15 @@ module _ {T : Type 0} (p : Job T) (row column : ℕ) (b : Bands T) where
       ∙ ap (λ r. fix_at r (p.setting.tables.choice (get_or b.amounts s p.setting.algebra.zero)) (fixed_in p.setting s b) b)
       (refused_outside p.setting.squares (standing b.codes) s (omega arith)))
 
-pub row_outside : (row rows : ℕ) (y : Bool) → rows ≤ row → ltb row rows && y ≡ false
-row_outside row rows y h = ap (λ x. x && y) (le-ltb row rows h)
-
-pub column_outside : (x : Bool) (column columns : ℕ) → columns ≤ column → x && ltb column columns ≡ false
-column_outside x column columns h = ap (λ y. x && y) (le-ltb column columns h) ∙ never x
-  where
-    never : (x : Bool) → x && false ≡ false
-    never true = refl
-    never false = refl
+-- a square outside by its row or its column fails the test of both
+pub test_outside : (row rows column columns : ℕ) → (row < rows → column < columns → ⊥) → ltb row rows && ltb column columns ≡ false
+test_outside row rows column columns outside = elim (cases_lt row rows) [
+  | inl l ↦ ap (λ x. x && ltb column columns) (lt-ltb row rows l) ∙ elim (cases_lt column columns) [
+    | inl m ↦ absurd (outside l m)
+    | inr m ↦ le-ltb column columns m
+  ]
+  | inr l ↦ ap (λ x. x && ltb column columns) (le-ltb row rows l)
+]
 
 -- what an attempt's answer tells
 pub record Accepted {T : Type 0} (j : Setting T) (s : ℕ) (b after : Bands T) : Type 0 where

@@ -1,6 +1,5 @@
 -- One square more among those whose errors are lost.
-use Rattle.std.proofs.Common.{◌≡◌, ℕ, zero, suc, ◌+◌, ◌*◌, ◌<◌, ◌≤◌, Bool, true, false, cond, not, ◌&&◌, eqb, List, [], ◌∷◌, ◌++◌, length, get_or, sym, refl, ap, ◌∙◌, inl, inr, add-one, arith}
-use Rattle.std.proofs.lemmas.Nat.{mul-add-lt}
+use Rattle.std.proofs.Common.{◌≡◌, ℕ, zero, suc, ◌+◌, ◌<◌, ◌≤◌, Bool, true, false, cond, not, ◌&&◌, eqb, List, [], ◌∷◌, ◌++◌, length, get_or, sym, refl, ap, ◌∙◌, inl, inr, add-one, arith}
 use Rattle.std.proofs.lemmas.List.{append-nil, length_push}
 use Rattle.std.proofs.lemmas.Bool.{cases_Bool, cases_eq}
 use Rattle.diffusion.specs.Bands.{standing}
@@ -45,15 +44,12 @@ module _ (squares : Neighbourhood) (codes : List ℕ) where
   lost_room : (i n : ℕ) → i < n → (standing codes i && baron squares i) ≡ true → length (lost_below squares codes i) < length (lost_below squares codes n)
   lost_room i n h is = omega (arith, lost_grows (i + 1) n (omega arith), ap length (lost_more i is), length_push (lost_below squares codes i) i)
 
-  -- the square at a row and a column has room behind those before it where all have room
-  pub row_room : (row rows column columns many space : ℕ) → row < rows → column < columns → length codes ≡ rows * columns
-      → true ≡ (not (eqb (get_or codes (row * columns + column) 0) 255) && baron squares (row * columns + column))
-      → many ≡ length (lost_below squares codes (row * columns + column)) → length (lost_below squares codes (rows * columns)) ≤ space → many < space
-  row_room row rows column columns many space in_rows in-columns long tested counted room =
-      let n = row * columns + column in
-      let below : n < rows * columns = omega (arith, mul-add-lt row columns column rows in_rows in-columns) in
+  -- a lost square has room behind those before it where all have room
+  pub room : (n many total space : ℕ) → n < total → length codes ≡ total → true ≡ (not (eqb (get_or codes n 0) 255) && baron squares n)
+      → many ≡ length (lost_below squares codes n) → length (lost_below squares codes total) ≤ space → many < space
+  room n many total space below long tested counted wide =
       let inside : n < length codes = omega arith in
-      omega (arith, lost_room n (rows * columns) below (sym (lost_read codes n inside squares true tested)))
+      omega (arith, lost_room n total below (sym (lost_read codes n inside squares true tested)))
 
   pub count_more : (i many : ℕ) → (standing codes i && baron squares i) ≡ true → many ≡ length (lost_below squares codes i) → many + 1 ≡ length (lost_below squares codes (i + 1))
   count_more i many is counted = omega (arith, ap length (lost_more i is), length_push (lost_below squares codes i) i)

@@ -14,6 +14,7 @@ pub mod Parting
 pub mod Parts
 pub mod Passes
 pub mod Readies
+mod Reading
 pub mod Refusing
 pub mod Resuming
 pub mod Standing

@@ -1,5 +1,5 @@
 -- A row in steps of a whole column period: the columns between have other ranks, and inner squares have the same pattern.
-use Rattle.std.proofs.Common.{◌≡◌, ℕ, ◌+◌, ◌-◌, ◌*◌, ◌%◌, ◌<◌, ◌≤◌, ltb, List, get_or, Some, sym, refl, ap, ◌∙◌, subst, ap₂, inl, inr, mod-eq_of_lt, mul_comm, arith}
+use Rattle.std.proofs.Common.{◌≡◌, ℕ, ◌+◌, ◌-◌, ◌*◌, ◌%◌, ◌<◌, ◌≤◌, ltb, get_or, Some, sym, refl, ap, ◌∙◌, subst, ap₂, inl, inr, mod-eq_of_lt, mul_comm, arith}
 use native.Mathlib.Nat.{mod-add-mod, mod-eq-sub-mod, add-mod_right}
 use Rattle.std.proofs.lemmas.Nat.{mul-add-lt, mod_below}
 use Rattle.std.proofs.lemmas.Bool.{cond-true, lt-ltb, cases_lt, cases_order}
@@ -19,10 +19,9 @@ use Rattle.diffusion.proofs.Lines.{lays_out}
 use Rattle.job.specs.Patterns.{compared, kind_of, kind_at, PatternOf}
 use Rattle.job.specs.Periods.{First, Lone, Inner}
 use Rattle.job.specs.Progress.{progress, visited, passed_from}
-use Rattle.job.specs.declared.kind.Kind.{Kind}
 use Rattle.job.specs.declared.kind.Kind.TheVariants.{Neither}
 use Rattle.job.specs.declared.pattern.Pattern.{Pattern}
-use Rattle.job.proofs.Around.{kind_here, pattern_told}
+use Rattle.job.proofs.Around.{kind_here, weights-told, last-told}
 use Rattle.job.proofs.Passes.{from_none, from_more, from_quiet}
 
 -- columns less than a period apart differ modulo the period
@@ -138,22 +137,27 @@ module _ (rows columns : ℕ) (plan : Ranks) (law : plans.Lawful plan) (row from
       ∙ ap₂ (kind_at plan (plan.rank row to)) upward (step_inner columns (across d) to (omega arith) behind))
 
   -- inner squares of a row that lie whole periods apart have the same pattern
-  pub same_pattern : (ks : List Kind) (w l : ℕ) → PatternOf (plain_drawing rows columns plan) (row * columns + from) ks w l
-      → PatternOf (plain_drawing rows columns plan) (row * columns + to) ks w l
-  same_pattern ks w l known =
+  pub same_pattern : (p : Pattern) → PatternOf (plain_drawing rows columns plan) (row * columns + from) p → PatternOf (plain_drawing rows columns plan) (row * columns + to) p
+  same_pattern p known =
       let below = at.below in
       let behind = at.behind in
       let inside : (c : ℕ) → c < columns → row * columns + c < rows * columns
       = λ c lc. let m = mul-add-lt row columns c rows (omega arith) lc in omega (arith, mul_comm rows columns) in
-      let kinds : (d : ℕ) → d < 8 → get_or ks d Neither ≡ kind_of (plain_drawing rows columns plan) (row * columns + to) d = λ d ld. known.kinds d ld ∙ same_kind d in
-      let here = pattern_told rows columns plan law (row * columns + from) (inside from (omega arith)) ks known.kinds in
-      let there = pattern_told rows columns plan law (row * columns + to) (inside to (omega arith)) ks kinds in
-      record { kinds = kinds; weights = known.weights ∙ sym here.weights ∙ there.weights; last = known.last ∙ sym here.last ∙ there.last }
+      let kinds : (d : ℕ) → d < 8 → get_or p.kinds d Neither ≡ kind_of (plain_drawing rows columns plan) (row * columns + to) d = λ d ld. known.kinds d ld ∙ same_kind d in
+      let here = known.inside in
+      let there = inside to (omega arith) in
+      record {
+        inside = there;
+        kinds = kinds;
+        weights = known.weights ∙ sym (weights-told rows columns plan law (row * columns + from) here p.kinds known.kinds 8 (omega arith))
+            ∙ weights-told rows columns plan law (row * columns + to) there p.kinds kinds 8 (omega arith);
+        last = known.last ∙ sym (last-told rows columns plan law (row * columns + from) here p.kinds known.kinds 8 (omega arith))
+            ∙ last-told rows columns plan law (row * columns + to) there p.kinds kinds 8 (omega arith);
+      }
 
 -- the pattern of a place, by equal terms for both
-pub same_place : (squares : Neighbourhood) (s t : ℕ) (p r : Pattern) → t ≡ s → r ≡ p → PatternOf squares s p.kinds p.weights p.last → PatternOf squares t r.kinds r.weights r.last
-same_place squares s t p r place pattern known =
-    subst (λ k. PatternOf squares k r.kinds r.weights r.last) (sym place) (subst (λ (x : Pattern). PatternOf squares s x.kinds x.weights x.last) (sym pattern) known)
+pub same_place : (squares : Neighbourhood) (s t : ℕ) (p r : Pattern) → t ≡ s → r ≡ p → PatternOf squares s p → PatternOf squares t r
+same_place squares s t p r place pattern known = subst (λ k. PatternOf squares k r) (sym place) (subst (PatternOf squares s) (sym pattern) known)
 
 module _ {T : Type 0} (tone : Algebra T) (rows columns : ℕ) (plan : Ranks) (law : plans.Lawful plan) (tables : Tables T) (drawing : ℕ → T) (rank row : ℕ) (start : Bands T) where
   abbrev setting : Setting T

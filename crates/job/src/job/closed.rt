@@ -7,6 +7,7 @@ ghost use Rattle.job.specs.Maps.{may_stand};
 
 use crate::form::is_standing;
 use crate::job::Job;
+use grid::Square;
 use plan::Plan;
 use quantiser::Quantiser;
 
@@ -22,7 +23,7 @@ impl<P: Plan, Q: Quantiser> Job<P, Q> {
         if !is_standing(saved, place) {
             return true;
         }
-        let pattern = self.pattern(row, column);
+        let pattern = self.pattern(Square { row, column, place });
         self.is_ready(|at| is_standing(saved, at), place, &pattern)
     }
 

@@ -10,6 +10,7 @@ ghost use Rattle.job.specs.Progress.{progress, visited, passed_from, passed_belo
 
 use crate::job::Job;
 use crate::pattern::Pattern;
+use grid::Square;
 use plan::Plan;
 use quantiser::Quantiser;
 use refusal::Refusal;
@@ -56,8 +57,9 @@ impl<P: Plan, Q: Quantiser> Job<P, Q> {
         let mut count = 0;
         for column in 0..self.size.columns {
             if self.plan.rank(row, column) == rank {
-                let pattern = self.pattern(row, column);
-                count += self.visit(amounts, codes, start + column, &pattern);
+                let place = start + column;
+                let pattern = self.pattern(Square { row, column, place });
+                count += self.visit(amounts, codes, place, &pattern);
             }
         }
         count
@@ -133,11 +135,19 @@ impl<P: Plan, Q: Quantiser> Job<P, Q> {
         let mut count = 0;
         let mut column = first;
         let mut known = first;
-        let mut pattern = self.pattern(row, first);
+        let mut pattern = self.pattern(Square {
+            row,
+            column: first,
+            place: start + first,
+        });
         while column < self.size.columns {
             if !self.is_inner(row, known, column) {
                 known = column;
-                pattern = self.pattern(row, column);
+                pattern = self.pattern(Square {
+                    row,
+                    column,
+                    place: start + column,
+                });
             }
             count += self.visit(amounts, codes, start + column, &pattern);
             column += period;

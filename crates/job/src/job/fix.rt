@@ -1,5 +1,6 @@
 // Fix: one square, by its row and column.
 ghost use Rattle.std.specs.Prelude.{◌≡◌, ◌+◌, ◌*◌, ◌<◌, ◌≤◌, length};
+ghost use Rattle.grid.specs.Squares.{Inside};
 ghost use Rattle.model.specs.Calls.{told};
 ghost use Rattle.model.specs.Steps.{fix_on};
 ghost use Rattle.job.specs.Answers.{coded};
@@ -11,6 +12,7 @@ ghost use Rattle.job.specs.Single.{attempt};
 use crate::job::Job;
 use crate::job::spread::OPEN;
 use crate::pattern::Pattern;
+use grid::Square;
 use plan::Plan;
 use quantiser::Quantiser;
 use refusal::Refusal;
@@ -67,22 +69,20 @@ impl<P: Plan, Q: Quantiser> Job<P, Q> {
         Ok(codes[place])
     }
 
-    // The same for the square at a row and a column.
+    // The same for a square, whose pattern is gathered.
     pub(crate) fn fix_square(
         &self,
         amounts: &mut [Q::Tone],
         codes: &mut [u8],
-        row: usize,
-        column: usize,
+        square: Square,
     ) -> Result<u8, Refusal>
-        requires row { row < self.now.size.rows }
-        requires column { column < self.now.size.columns }
+        requires square { Inside self.now.size square }
         requires amounts { length amounts.old ≡ self.now.size.rows * self.now.size.columns }
         requires codes { length codes.old ≡ self.now.size.rows * self.now.size.columns }
-        ensures { told (coded result) (band codes.new amounts.new) ≡ attempt (setting_by Q.Tone.Tone.algebra P.Plan.meaning Q.Quantiser.tables self.now) (row * self.now.size.columns + column) (band codes.old amounts.old) }
+        ensures { told (coded result) (band codes.new amounts.new) ≡ attempt (setting_by Q.Tone.Tone.algebra P.Plan.meaning Q.Quantiser.tables self.now) square.place (band codes.old amounts.old) }
     {
-        let pattern = self.pattern(row, column);
-        self.settle(amounts, codes, row * self.size.columns + column, &pattern)
+        let pattern = self.pattern(square);
+        self.settle(amounts, codes, square.place, &pattern)
     }
 
     // Fixes the square at a row and a column: 2 for the bands, 3 outside the drawing, 4 where it is fixed, 5 where a lower neighbour is open.
@@ -99,9 +99,10 @@ impl<P: Plan, Q: Quantiser> Job<P, Q> {
         if !self.lengths_match(drawing, amounts, codes) {
             return Err(Refusal::BandLength);
         }
-        if row >= self.size.rows || column >= self.size.columns {
-            return Err(Refusal::OutsideDrawing);
-        }
-        self.fix_square(amounts, codes, row, column)
+        let square = self
+            .size
+            .square(row, column)
+            .ok_or(Refusal::OutsideDrawing)?;
+        self.fix_square(amounts, codes, square)
     }
 }

@@ -23,15 +23,8 @@ impl<P: Plan, Q: Quantiser> Job<P, Q> {
         requires codes { length codes.old ≡ self.now.size.rows * self.now.size.columns }
         ensures { told (coded result) (band codes.new amounts.new) ≡ attempt (setting_by Q.Tone.Tone.algebra P.Plan.meaning Q.Quantiser.tables self.now) place (band codes.old amounts.old) }
     {
-        if place >= self.size.squares() {
-            return Err(Refusal::OutsideDrawing);
-        }
-        self.fix_square(
-            amounts,
-            codes,
-            place / self.size.columns,
-            place % self.size.columns,
-        )
+        let square = self.size.square_at(place).ok_or(Refusal::OutsideDrawing)?;
+        self.fix_square(amounts, codes, square)
     }
 
     // Fixes the squares at the places of a list in turn, up to the first refusal: how many were accepted, and the refusal's number or 0.

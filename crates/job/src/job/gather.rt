@@ -2,13 +2,14 @@
 ghost use Rattle.std.specs.Prelude.{◌≡◌, ℕ, ◌+◌, ◌*◌, ◌<◌, ◌≤◌, length};
 ghost use Rattle.grid.specs.Directions.{number_of, down, across};
 ghost use Rattle.grid.specs.Lines.{plain, step};
+ghost use Rattle.grid.specs.Squares.{Inside};
 ghost use Rattle.job.specs.Meaning.{squares_of};
 ghost use Rattle.job.specs.Patterns.{kind_at, kinds_weight, kinds_last, last_number, PatternOf};
 
 use crate::job::Job;
 use crate::kind::Kind;
 use crate::pattern::{Pattern, kind_in};
-use grid::Direction;
+use grid::{Direction, Square};
 use plan::Plan;
 use quantiser::Quantiser;
 
@@ -42,15 +43,14 @@ fn last_of(kinds: &[Kind; 8]) -> Option<Direction>
 
 impl<P: Plan, Q: Quantiser> Job<P, Q> {
     // What lies next to a square of rank `own` in a direction.
-    fn kind(&self, row: usize, column: usize, own: u8, direction: Direction) -> Kind
-        requires row { row < self.now.size.rows }
-        requires column { column < self.now.size.columns }
-        ensures { result ≡ kind_at (P.Plan.meaning self.now.plan) own (step (plain self.now.size.rows) (down (number_of direction)) row) (step (plain self.now.size.columns) (across (number_of direction)) column) }
+    fn kind(&self, square: Square, own: u8, direction: Direction) -> Kind
+        requires { Inside self.now.size square }
+        ensures { result ≡ kind_at (P.Plan.meaning self.now.plan) own (step (plain self.now.size.rows) (down (number_of direction)) square.row) (step (plain self.now.size.columns) (across (number_of direction)) square.column) }
     {
-        let Some(r) = self.size.row_beside(row, direction) else {
+        let Some(r) = self.size.row_beside(square.row, direction) else {
             return Kind::Neither;
         };
-        let Some(c) = self.size.column_beside(column, direction) else {
+        let Some(c) = self.size.column_beside(square.column, direction) else {
             return Kind::Neither;
         };
         let rank = self.plan.rank(r, c);
@@ -63,22 +63,21 @@ impl<P: Plan, Q: Quantiser> Job<P, Q> {
         }
     }
 
-    // The pattern of the square at a row and a column.
-    pub(crate) fn pattern(&self, row: usize, column: usize) -> Pattern
-        requires row { row < self.now.size.rows }
-        requires column { column < self.now.size.columns }
-        ensures { PatternOf (squares_of P.Plan.meaning self.now) (row * self.now.size.columns + column) result }
+    // The pattern of a square.
+    pub(crate) fn pattern(&self, square: Square) -> Pattern
+        requires { Inside self.now.size square }
+        ensures { PatternOf (squares_of P.Plan.meaning self.now) square.place result }
     {
-        let own = self.plan.rank(row, column);
+        let own = self.plan.rank(square.row, square.column);
         let kinds = [
-            self.kind(row, column, own, Direction::N),
-            self.kind(row, column, own, Direction::Ne),
-            self.kind(row, column, own, Direction::E),
-            self.kind(row, column, own, Direction::Se),
-            self.kind(row, column, own, Direction::S),
-            self.kind(row, column, own, Direction::Sw),
-            self.kind(row, column, own, Direction::W),
-            self.kind(row, column, own, Direction::Nw),
+            self.kind(square, own, Direction::N),
+            self.kind(square, own, Direction::Ne),
+            self.kind(square, own, Direction::E),
+            self.kind(square, own, Direction::Se),
+            self.kind(square, own, Direction::S),
+            self.kind(square, own, Direction::Sw),
+            self.kind(square, own, Direction::W),
+            self.kind(square, own, Direction::Nw),
         ];
         let weights = weights_of(&kinds);
         let last = last_of(&kinds);

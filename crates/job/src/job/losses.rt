@@ -1,5 +1,5 @@
 // Losses: the errors that no neighbour takes, by place.
-ghost use Rattle.std.specs.Prelude.{◌≡◌, ◌+◌, ◌*◌, ◌<◌, ◌≤◌, length};
+ghost use Rattle.std.specs.Prelude.{◌≡◌, ◌*◌, ◌≤◌, length};
 ghost use Rattle.model.specs.Calls.{listed};
 ghost use Rattle.model.specs.Steps.{losses_on};
 ghost use Rattle.job.specs.Answers.{counted};
@@ -12,67 +12,21 @@ use quantiser::Quantiser;
 use refusal::Refusal;
 
 impl<P: Plan, Q: Quantiser> Job<P, Q> {
-    // How many squares are fixed barons up to the end of a row, where `before` is how many the rows above have.
-    fn count_row_losses(&self, codes: &[u8], row: usize, before: usize) -> usize
-        requires row { row < self.now.size.rows }
-        requires codes { length codes.now ≡ self.now.size.rows * self.now.size.columns }
-        requires before { before ≡ length (lost_below (squares_of P.Plan.meaning self.now) codes.now (row * self.now.size.columns)) }
-        ensures { result ≡ length (lost_below (squares_of P.Plan.meaning self.now) codes.now ((row + 1) * self.now.size.columns)) }
-    {
-        let start = row * self.size.columns;
-        let mut count = before;
-        for column in 0..self.size.columns {
-            if self.is_lost(codes[start + column], row, column) {
-                count += 1;
-            }
-        }
-        count
-    }
-
     // How many squares are fixed barons.
     fn count_losses(&self, codes: &[u8]) -> usize
         requires { length codes.now ≡ self.now.size.rows * self.now.size.columns }
         ensures { result ≡ length (lost_below (squares_of P.Plan.meaning self.now) codes.now (self.now.size.rows * self.now.size.columns)) }
     {
         let mut count = 0;
-        for row in 0..self.size.rows {
-            count = self.count_row_losses(codes, row, count);
-        }
-        count
-    }
-
-    // Lists place and error of each fixed baron of a row behind the `before` ones of the rows above, and answers how many are
-    // listed then.
-    fn list_row_losses(
-        &self,
-        amounts: &[Q::Tone],
-        codes: &[u8],
-        row: usize,
-        before: usize,
-        places: &mut [usize],
-        errors: &mut [Q::Tone],
-    ) -> usize
-        requires row { row < self.now.size.rows }
-        requires codes { length codes.now ≡ self.now.size.rows * self.now.size.columns }
-        requires amounts { length amounts.now ≡ self.now.size.rows * self.now.size.columns }
-        requires places { length (lost_below (squares_of P.Plan.meaning self.now) codes.now (self.now.size.rows * self.now.size.columns)) ≤ length places.old }
-        requires errors { length (lost_below (squares_of P.Plan.meaning self.now) codes.now (self.now.size.rows * self.now.size.columns)) ≤ length errors.old }
-        requires above { Listing Q.Tone.Tone.algebra (squares_of P.Plan.meaning self.now) codes.now amounts.now (row * self.now.size.columns) before places.old places.old errors.old errors.old }
-        ensures { Listing Q.Tone.Tone.algebra (squares_of P.Plan.meaning self.now) codes.now amounts.now ((row + 1) * self.now.size.columns) result places.old places.new errors.old errors.new }
-    {
-        let start = row * self.size.columns;
-        let mut count = before;
-        for column in 0..self.size.columns {
-            if self.is_lost(codes[start + column], row, column) {
-                places[count] = start + column;
-                errors[count] = amounts[start + column];
+        for square in self.size.in_reading_order() {
+            if self.is_lost(codes[square.place], square) {
                 count += 1;
             }
         }
         count
     }
 
-    // The same for all rows, by rising place.
+    // Lists place and error of each fixed baron by rising place, and answers how many there are, in lists with room for all.
     fn list_losses(
         &self,
         amounts: &[Q::Tone],
@@ -87,8 +41,12 @@ impl<P: Plan, Q: Quantiser> Job<P, Q> {
         ensures { Listing Q.Tone.Tone.algebra (squares_of P.Plan.meaning self.now) codes.now amounts.now (self.now.size.rows * self.now.size.columns) result places.old places.new errors.old errors.new }
     {
         let mut count = 0;
-        for row in 0..self.size.rows {
-            count = self.list_row_losses(amounts, codes, row, count, places, errors);
+        for square in self.size.in_reading_order() {
+            if self.is_lost(codes[square.place], square) {
+                places[count] = square.place;
+                errors[count] = amounts[square.place];
+                count += 1;
+            }
         }
         count
     }
@@ -109,10 +67,7 @@ impl<P: Plan, Q: Quantiser> Job<P, Q> {
             return Err(Refusal::BandLength);
         }
         let count = self.count_losses(codes);
-        if places.len() < count {
-            return Err(Refusal::OutputTooShort);
-        }
-        if errors.len() < count {
+        if places.len() < count || errors.len() < count {
             return Err(Refusal::OutputTooShort);
         }
         Ok(self.list_losses(amounts, codes, places, errors))

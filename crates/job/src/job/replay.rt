@@ -8,6 +8,7 @@ ghost use Rattle.job.specs.Worked.{kept_if, RowWorked};
 use crate::job::Job;
 use crate::job::spread::OPEN;
 use crate::pattern::Pattern;
+use grid::Square;
 use plan::Plan;
 use quantiser::Quantiser;
 use tone::Tone;
@@ -59,7 +60,7 @@ impl<P: Plan, Q: Quantiser> Job<P, Q> {
         if self.plan.rank(row, column) != rank {
             return true;
         }
-        let pattern = self.pattern(row, column);
+        let pattern = self.pattern(Square { row, column, place });
         self.replay_place(amounts, codes, place, &pattern)
     }
 

@@ -1,5 +1,5 @@
 // Tally: four totals over all squares.
-ghost use Rattle.std.specs.Prelude.{◌≡◌, ◌+◌, ◌*◌, ◌<◌, length};
+ghost use Rattle.std.specs.Prelude.{◌≡◌, ◌*◌, length};
 ghost use Rattle.tone.specs.Sums.{total as total_of};
 ghost use Rattle.model.specs.Steps.{tally_on};
 ghost use Rattle.job.specs.Answers.{totalled};
@@ -7,6 +7,7 @@ ghost use Rattle.job.specs.Meaning.{squares_of, meant, band};
 ghost use Rattle.job.specs.Shown.{output_at, loss_at, open_at};
 
 use crate::job::Job;
+use crate::job::spread::OPEN;
 use crate::totals::Totals;
 use plan::Plan;
 use quantiser::Quantiser;
@@ -19,8 +20,8 @@ fn sum_open<T: Tone>(amounts: &[T], codes: &[u8]) -> T
     ensures { result ≡ total_of T.algebra (open_at T.algebra codes.now amounts.now) (length amounts.now) }
 {
     let mut sum = T::zero();
-    for (place, amount) in amounts.iter().enumerate() {
-        if codes[place] == 255 {
+    for (amount, code) in amounts.iter().zip(codes) {
+        if *code == OPEN {
             sum = sum.sum(*amount);
         }
     }
@@ -34,32 +35,8 @@ impl<P: Plan, Q: Quantiser> Job<P, Q> {
     {
         let mut sum = Q::Tone::zero();
         for code in codes {
-            if *code != 255 {
+            if *code != OPEN {
                 sum = sum.sum(self.quantiser.output(*code));
-            }
-        }
-        sum
-    }
-
-    // The errors of the fixed barons up to the end of a row, where `before` is what those of the rows above add up to.
-    fn sum_row_losses(
-        &self,
-        amounts: &[Q::Tone],
-        codes: &[u8],
-        row: usize,
-        before: Q::Tone,
-    ) -> Q::Tone
-        requires row { row < self.now.size.rows }
-        requires codes { length codes.now ≡ self.now.size.rows * self.now.size.columns }
-        requires amounts { length amounts.now ≡ self.now.size.rows * self.now.size.columns }
-        requires before { before ≡ total_of Q.Tone.Tone.algebra (loss_at Q.Tone.Tone.algebra (squares_of P.Plan.meaning self.now) codes.now amounts.now) (row * self.now.size.columns) }
-        ensures { result ≡ total_of Q.Tone.Tone.algebra (loss_at Q.Tone.Tone.algebra (squares_of P.Plan.meaning self.now) codes.now amounts.now) ((row + 1) * self.now.size.columns) }
-    {
-        let start = row * self.size.columns;
-        let mut sum = before;
-        for column in 0..self.size.columns {
-            if self.is_lost(codes[start + column], row, column) {
-                sum = sum.sum(amounts[start + column]);
             }
         }
         sum
@@ -72,8 +49,10 @@ impl<P: Plan, Q: Quantiser> Job<P, Q> {
         ensures { result ≡ total_of Q.Tone.Tone.algebra (loss_at Q.Tone.Tone.algebra (squares_of P.Plan.meaning self.now) codes.now amounts.now) (self.now.size.rows * self.now.size.columns) }
     {
         let mut sum = Q::Tone::zero();
-        for row in 0..self.size.rows {
-            sum = self.sum_row_losses(amounts, codes, row, sum);
+        for square in self.size.in_reading_order() {
+            if self.is_lost(codes[square.place], square) {
+                sum = sum.sum(amounts[square.place]);
+            }
         }
         sum
     }

@@ -1,4 +1,4 @@
-use Rattle.std.proofs.Common.{◌+◌, ◌*◌, not, ◌||◌, sym, ap, ◌∙◌, mul_comm, arith}
+use Rattle.std.proofs.Common.{◌+◌, ◌*◌, not, ◌||◌, sym, ap, ◌∙◌, mul_comm, arith, rules}
 use Rattle.std.proofs.lemmas.Nat.{mul-add-lt}
 use Rattle.diffusion.specs.Sets.{ready_by}
 use Rattle.model.specs.Records.{stands}
@@ -19,18 +19,9 @@ returns-then-not-is_standing g c =
     let s = c.args.row * j.size.columns + c.args.column in
     sym (ap (λ b. not b || ready_by (squares_of g.P.Plan.meaning j) (stands c.args.saved.now) s 8) (sym c.if-not-is_standing.ensures))
 
-pub all_lower_stand-requires : goal.all_lower_stand-requires
-all_lower_stand-requires g c =
-    let size = c.args.self.now.size in
-    record {
-      inside = omega (arith, mul-add-lt c.args.row size.columns c.args.column size.rows c.requires.row c.requires.column, mul_comm size.rows size.columns);
-      saved = c.requires.saved;
-      pattern = c.pattern-pattern.ensures;
-    }
-
 pub returns : goal.returns
 returns g c =
     let j = c.args.self.now in
     let s = c.args.row * j.size.columns + c.args.column in
-    c.all_lower_stand.ensures
+    c.is_ready.ensures (stands c.args.saved.now) (λ t r l p. search rules)
     ∙ sym (ap (λ b. not b || ready_by (squares_of g.P.Plan.meaning j) (stands c.args.saved.now) s 8) (sym c.if-not-is_standing.ensures))

@@ -1,4 +1,4 @@
-use Rattle.std.proofs.Common.{◌≡◌, ℕ, ◌+◌, ◌*◌, ◌<◌, List, [], ◌∷◌, get_or, sym, ap, ◌∙◌, mul_comm, arith}
+use Rattle.std.proofs.Common.{◌≡◌, ℕ, ◌*◌, ◌<◌, List, [], ◌∷◌, get_or, sym, ap, ◌∙◌, mul_comm, arith}
 use Rattle.std.proofs.lemmas.Nat.{mul-add-lt}
 use Rattle.grid.specs.Directions.{down, across}
 use Rattle.grid.specs.Lines.{plain, step}
@@ -17,15 +17,16 @@ returns g c =
     let columns = j.size.columns in
     let plan = g.P.Plan.meaning j.plan in
     let law = g.met.P.Plan.lawful j.plan in
-    let row = c.args.row in
-    let column = c.args.column in
+    let row = c.args.square.row in
+    let column = c.args.square.column in
     let squares = squares_of g.P.Plan.meaning j in
-    let s = row * columns + column in
-    let inside : s < rows * columns = omega (arith, mul-add-lt row columns column rows c.requires.row c.requires.column, mul_comm rows columns) in
+    let s = c.args.square.place in
+    let at = c.requires.place in
+    let inside : s < rows * columns = omega (arith, at, mul-add-lt row columns column rows c.requires.row c.requires.column, mul_comm rows columns) in
     let ks : List Kind = c.kind.result ∷ c.kind-2.result ∷ c.kind-3.result ∷ c.kind-4.result ∷ c.kind-5.result ∷ c.kind-6.result ∷ c.kind-7.result ∷ c.kind-8.result ∷ [] in
     let one : (d : ℕ) (k : Kind) → k ≡ kind_at plan c.rank-own.result (step (plain rows) (down d) row) (step (plain columns) (across d) column) → k ≡ kind_of squares s d
     = λ d k e. e ∙ ap (λ own. kind_at plan own (step (plain rows) (down d) row) (step (plain columns) (across d) column)) c.rank-own.ensures
-    ∙ sym (kind_here rows columns plan law row column d c.requires.row c.requires.column) in
+    ∙ sym (kind_here rows columns plan law row column d c.requires.row c.requires.column) ∙ ap (λ t. kind_of squares t d) (sym at) in
     let kinds : (d : ℕ) → d < 8 → get_or ks d Neither ≡ kind_of squares s d
     = by_eight (λ d. get_or ks d Neither ≡ kind_of squares s d)
     (one 0 _ c.kind.ensures) (one 1 _ c.kind-2.ensures) (one 2 _ c.kind-3.ensures) (one 3 _ c.kind-4.ensures)

@@ -31,7 +31,6 @@ pub replay_place-requires : goal.replay_place-requires
 replay_place-requires g c =
     let size = c.args.self.now.size in
     record {
-      inside = omega (arith, mul-add-lt c.args.row size.columns c.args.column size.rows c.requires.row c.requires.column, mul_comm size.rows size.columns);
       amounts = c.requires.amounts;
       codes = c.requires.codes;
       pattern = c.pattern-pattern.ensures;

@@ -1,5 +1,4 @@
-use Rattle.std.proofs.Common.{◌+◌, ◌*◌, sym, ap, ◌∙◌, mul_comm, arith}
-use Rattle.std.proofs.lemmas.Nat.{mul-add-lt}
+use Rattle.std.proofs.Common.{◌+◌, ◌*◌, sym, ap, ◌∙◌, arith}
 use Rattle.diffusion.proofs.Lines.{lays_out}
 use Rattle.job.specs.Meaning.{setting_by, band}
 use Rattle.job.specs.Progress.{progress, visited}
@@ -25,7 +24,6 @@ visit-count-requires g c =
     record {
       lower = at_rank j.squares c.loop-column.codes (j.squares.rank (a + k)) c.args.rank (is ∙ sym c.rank.ensures ∙ c.if-rank.true)
           (lower_from j c.args.rank a k c.loop-column.count (band c.args.codes.now c.args.amounts.now) (band c.loop-column.codes c.loop-column.amounts) c.loop-column.invariant.1 c.requires.lower);
-      inside = omega (arith, mul-add-lt c.args.row size.columns c.loop-column.column size.rows c.requires.row c.loop-column-test.true, mul_comm size.rows size.columns);
       amounts = omega (arith, c.requires.amounts);
       codes = omega (arith, c.requires.codes);
       pattern = c.pattern-pattern.ensures;

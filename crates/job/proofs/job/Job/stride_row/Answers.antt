@@ -1,6 +1,5 @@
-use Rattle.std.proofs.Common.{◌≡◌, ℕ, ◌+◌, ◌*◌, ◌%◌, ◌<◌, ◌≤◌, sym, refl, ap, ◌∙◌, mod-eq_of_lt, mul_comm, arith}
+use Rattle.std.proofs.Common.{◌≡◌, ℕ, ◌+◌, ◌*◌, ◌%◌, ◌<◌, ◌≤◌, sym, refl, ap, ◌∙◌, mod-eq_of_lt, arith}
 use native.Mathlib.Nat.{add-mod_right}
-use Rattle.std.proofs.lemmas.Nat.{mul-add-lt}
 use Rattle.diffusion.proofs.Lines.{lays_out}
 use Rattle.job.specs.Meaning.{squares_of, setting_by, band}
 use Rattle.job.specs.Patterns.{PatternOf}
@@ -47,14 +46,13 @@ visit-count-requires g c =
     record {
       lower = at_rank squares c.loop-column.codes (squares.rank s) c.args.rank own
           (lower_from j c.args.rank a k c.loop-column.count (band c.args.codes.now c.args.amounts.now) (band c.loop-column.codes c.loop-column.amounts) so_far c.requires.lower);
-      inside = omega (arith, mul-add-lt c.args.row columns k rows c.requires.row c.loop-column-test.true, mul_comm rows columns);
       amounts = omega (arith, c.requires.amounts);
       codes = omega (arith, c.requires.codes);
       pattern = elim c.if-not-is_inner.branch [
         | then-not-is_inner w ↦ same_place squares s s w.pattern-pattern-then-not-is_inner.result c.if-not-is_inner.pattern refl w.pattern-is w.pattern-pattern-then-not-is_inner.ensures
         | else-not-is_inner w ↦ same_place squares s s c.loop-column.pattern c.if-not-is_inner.pattern refl w.pattern-is
             (same_pattern rows columns (g.P.Plan.meaning job.plan) (g.met.P.Plan.lawful job.plan) c.args.row c.loop-column.known k (w.if-not-is_inner.ensures refl)
-            inv.0 (inv.2 ∙ sym inv.1) c.loop-column.pattern.kinds c.loop-column.pattern.weights c.loop-column.pattern.last inv.3)
+            inv.0 (inv.2 ∙ sym inv.1) c.loop-column.pattern inv.3)
       ];
     }
 
@@ -77,7 +75,7 @@ loop-column-preserved g c =
     let step = c.column_period-period.ensures in
     let least = law.column_period.least in
     let few = c.visit-count.ensures.few in
-    let held : (known ≤ k) × (known % q ≡ c.args.first) × PatternOf squares (a + known) pattern.kinds pattern.weights pattern.last
+    let held : (known ≤ k) × (known % q ≡ c.args.first) × PatternOf squares (a + known) pattern
     = elim c.if-not-is_inner.branch [
       | then-not-is_inner w ↦ (
         omega (arith, w.known-is),

@@ -13,7 +13,7 @@ invariant-loop-column g l =
     (l.known ≤ l.column)
     × (l.known % q ≡ l.first)
     × (l.column % q ≡ l.first)
-    × PatternOf j.squares (a + l.known) l.pattern.kinds l.pattern.weights l.pattern.last
+    × PatternOf j.squares (a + l.known) l.pattern
     × (l.count ≤ l.column)
     × (l.count ≤ columns)
     × (l.column < columns + q)

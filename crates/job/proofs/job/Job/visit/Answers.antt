@@ -12,5 +12,5 @@ returns g c =
     let laws = (lays_out size.rows size.columns (g.P.Plan.meaning job.plan) (g.met.P.Plan.lawful job.plan)).laws in
     record {
       few = c.take.ensures.few;
-      after = c.take.ensures.after ∙ taken_visits j c.args.place (band c.args.codes.now c.args.amounts.now) laws c.requires.inside c.requires.lower;
+      after = c.take.ensures.after ∙ taken_visits j c.args.place (band c.args.codes.now c.args.amounts.now) laws c.requires.pattern.inside c.requires.lower;
     }
