@@ -9,8 +9,7 @@ use Rattle.model.specs.Openings.{open_refusal}
 use Rattle.model.specs.Runs.{run}
 use Rattle.model.specs.Steps.{step}
 use Rattle.model.proofs.Kept.{holds_after}
-use Rattle.calls.specs.Works.{call_of, ran_of, filled, Promise}
-use Rattle.calls.specs.declared.call.Answer.{Answer}
+use Rattle.calls.specs.Works.{Outcome, call_of, ran_of, filled, Promise}
 use Rattle.calls.specs.declared.call.Call.{Call}
 
 -- the lengths that an accepted Open tells
@@ -31,7 +30,7 @@ opened_lengths rows columns d a c = go (within rows columns) (eqb d (rows * colu
     go false true e h = absurd (omega arith)
     go false false e h = absurd (omega arith)
 
-pub promised : {T : Type 0} (p : Job T) → Lawful p → (calls : List Call) (old new : List (Answer T)) (o u : Pools T) (b start : Bands T)
+pub promised : {T : Type 0} (p : Job T) → Lawful p → (calls : List Call) (old new : List (Outcome T)) (o u : Pools T) (b start : Bands T)
     → start ≡ opened p.setting → ran_of new b u ≡ filled (run (step p) (map call_of calls) start o) old → Promise p calls old new o u b
 promised p law calls old new o u b start is ran = record {
   whole = ran ∙ ap (λ x. filled (run (step p) (map call_of calls) x o) old) is ∙ ap (λ x. filled x old) (holds_after p law (map call_of calls) o).whole;

@@ -1,5 +1,5 @@
 -- One turn of the loop over the calls, and its end.
-use Rattle.std.proofs.Common.{◌≡◌, ℕ, ◌+◌, ◌<◌, ◌≤◌, List, [], ◌∷◌, ◌++◌, map, length, get_or, take, drop, set, sym, refl, ap, ◌∙◌, subst, ap₂, arith}
+use Rattle.std.proofs.Common.{◌≡◌, ℕ, ◌+◌, ◌<◌, ◌≤◌, List, [], ◌∷◌, ◌++◌, map, length, get_or, take, drop, set, sym, refl, ap, ◌∙◌, ap₂, arith}
 use Rattle.std.proofs.lemmas.List.{append-nil, append_assoc, map-append, take-append-drop, drop-drop, drop-set-lt, drop_more, drop_all, take_more_set, length-map, length-take-le}
 use Rattle.diffusion.specs.Bands.{Bands}
 use Rattle.model.specs.Jobs.{Job}
@@ -7,20 +7,19 @@ use Rattle.model.specs.Calls.{Pools, Done, done}
 use Rattle.model.specs.Steps.{step}
 use Rattle.model.specs.Runs.{Ran, run, ran_more}
 use Rattle.calls.specs.declared.call.Call.{Call}
-use Rattle.calls.specs.declared.call.Answer.{Answer}
-use Rattle.calls.specs.Works.{call_of, answer_of, ran_of, filled}
+use Rattle.calls.specs.Works.{Outcome, call_of, answer_of, ran_of, filled}
 
 -- answers in front of those of a run
-abbrev pub onto : {T : Type 0} → List (Answer T) → Ran T (Bands T) → Ran T (Bands T)
+abbrev pub onto : {T : Type 0} → List (Outcome T) → Ran T (Bands T) → Ran T (Bands T)
 onto list r = record { answers = map answer_of list ++ r.answers; state = r.state; pools = r.pools }
 
-module _ {T : Type 0} (p : Job T) (calls : List Call) (old : List (Answer T)) (whole : Ran T (Bands T)) where
+module _ {T : Type 0} (p : Job T) (calls : List Call) (old : List (Outcome T)) (whole : Ran T (Bands T)) where
   -- the calls from i on, behind the answers before i, give the whole
-  pub record Turn (i : ℕ) (list : List (Answer T)) (b : Bands T) (o : Pools T) : Type 0 where
+  pub record Turn (i : ℕ) (list : List (Outcome T)) (b : Bands T) (o : Pools T) : Type 0 where
     pub rest : onto (take i list) (run (step p) (map call_of (drop i calls)) b o) ≡ whole
     pub same : drop i list ≡ drop i old
 
-  pub turn : (i : ℕ) (c : Call) (list : List (Answer T)) (a : Answer T) (b b' : Bands T) (o o' : Pools T)
+  pub turn : (i : ℕ) (c : Call) (list : List (Outcome T)) (a : Outcome T) (b b' : Bands T) (o o' : Pools T)
       → i < length calls → i < length list → c ≡ get_or calls i c → done (answer_of a) b' o' ≡ step p (call_of c) b o
       → Turn i list b o → Turn (i + 1) (set list i a) b' o'
   unfolding run
@@ -39,12 +38,7 @@ module _ {T : Type 0} (p : Job T) (calls : List Call) (old : List (Answer T)) (w
       front = ap (λ xs. xs ++ (run (step p) (map call_of (drop (i + 1) calls)) b' o').answers) (map-append answer_of (take i list) (a ∷ []))
           ∙ append_assoc (map answer_of (take i list)) (answer_of a ∷ []) _
 
-  pub turn_by : (i : ℕ) (c : Call) (list list' : List (Answer T)) (a : Answer T) (b b' : Bands T) (o o' : Pools T)
-      → i < length calls → i < length list → c ≡ get_or calls i c → done (answer_of a) b' o' ≡ step p (call_of c) b o → list' ≡ set list i a
-      → Turn i list b o → Turn (i + 1) list' b' o'
-  turn_by i c list list' a b b' o o' l h at e q k = subst (λ xs. Turn (i + 1) xs b' o') (sym q) (turn i c list a b b' o o' l h at e k)
-
-  pub turned : (i : ℕ) (list : List (Answer T)) (b : Bands T) (o : Pools T) → length calls ≤ i → i ≤ length list → Turn i list b o → ran_of list b o ≡ filled whole old
+  pub turned : (i : ℕ) (list : List (Outcome T)) (b : Bands T) (o : Pools T) → length calls ≤ i → i ≤ length list → Turn i list b o → ran_of list b o ≡ filled whole old
   unfolding run
   turned i list b o l h k =
       (λ j. record { answers = parts j; state = b; pools = o })

@@ -1,7 +1,6 @@
 // The calls on a job with their arguments, and what they answer.
 use crate::window::Window;
 use job::Totals;
-use refusal::Refusal;
 
 // Halt and Losses write into windows of lent memory.
 #[derive(Clone, Copy)]
@@ -15,7 +14,8 @@ pub enum Call<'a> {
     Losses(Window, Window),
 }
 
-// Fix answers a code; Follow how many were accepted and the refusal's number or 0; Finish, Halt and Losses a number; Tally four totals.
+// What an accepted call answers: Fix a code; Follow how many were accepted and the refusal's number or 0; Finish, Halt and Losses a number; Tally
+// four totals.
 #[derive(Clone, Copy)]
 pub enum Answer<T> {
     Code(u8),
@@ -23,5 +23,4 @@ pub enum Answer<T> {
     Count(usize),
     Resumed,
     Totals(Totals<T>),
-    Refused(Refusal),
 }

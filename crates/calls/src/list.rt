@@ -1,35 +1,19 @@
 // A list of calls in turn.
-ghost use Rattle.std.specs.Prelude.{◌≡◌, ◌<◌, ◌≤◌, map, length, if◌then◌else◌, ◌≢◌, nat_le, slice_index_or, slice_set};
+ghost use Rattle.std.specs.Prelude.{◌≡◌, ◌≤◌, map, length, if◌then◌else◌, nat_le, OnOk, OnErr};
 ghost use Rattle.model.specs.Calls.{pools};
 ghost use Rattle.model.specs.Jobs.{job_of};
 ghost use Rattle.model.specs.Openings.{open_refusal};
 ghost use Rattle.model.specs.Runs.{run};
 ghost use Rattle.model.specs.Steps.{step};
 ghost use Rattle.job.specs.Meaning.{meant, band};
-ghost use Rattle.calls.specs.Works.{call_of, ran_of, filled, Promise};
+ghost use Rattle.calls.specs.Works.{call_of, ran_of, filled, Promise, refusal_number};
 
 use crate::call::{Answer, Call};
 use crate::perform::perform;
-use job::Job;
+use job::{Job, open_bands};
 use plan::Plan;
 use quantiser::Quantiser;
 use refusal::Refusal;
-
-// One of the calls.
-fn call_at<'a>(calls: &[Call<'a>], at: usize) -> Call<'a>
-    requires { at < length calls.now }
-    ensures { result ≡ slice_index_or calls.now at result }
-{
-    calls[at]
-}
-
-// Writes one element.
-fn put<X: Copy>(list: &mut [X], at: usize, x: X)
-    requires { at < length list.old }
-    ensures { list.new ≡ slice_set list.old at x }
-{
-    list[at] = x;
-}
 
 // Works the calls in turn on a job, refused ones included.
 fn work_on<P: Plan, Q: Quantiser>(
@@ -41,20 +25,19 @@ fn work_on<P: Plan, Q: Quantiser>(
     places: &mut [usize],
     errors: &mut [Q::Tone],
     calls: &[Call<'_>],
-    answers: &mut [Answer<Q::Tone>],
+    answers: &mut [Result<Answer<Q::Tone>, Refusal>],
 )
     requires { length calls.now ≤ length answers.old }
     ensures { ran_of answers.new (band codes.new amounts.new) (pools bytes.new places.new errors.new) ≡ filled (run (step (meant Q.Tone.Tone.algebra P.Plan.meaning Q.Quantiser.tables job.now drawing.now)) (map call_of calls.now) (band codes.old amounts.old) (pools bytes.old places.old errors.old)) answers.old }
 {
-    for i in 0..calls.len() {
-        let call = call_at(calls, i);
-        let answer = perform(job, drawing, amounts, codes, bytes, places, errors, call);
-        put(answers, i, answer);
+    for (i, call) in calls.iter().enumerate() {
+        let answer = perform(job, drawing, amounts, codes, bytes, places, errors, *call);
+        answers[i] = answer;
     }
 }
 
-// Opens a new job and works the calls on it in turn: 0, or the number of a refusal. 6 comes before anything where the list for the answers is
-// too short; where Open is refused, no call is made. Halt writes into windows of `bytes`, Losses into windows of `places` and `errors`.
+// Opens a new job and works the calls on it in turn. It refuses with 6 before anything where the list for the answers is too short, and then as
+// Open does; no call is made then. Halt writes into windows of `bytes`, Losses into windows of `places` and `errors`.
 pub fn work<P: Plan + Drop, Q: Quantiser + Drop>(
     rows: usize,
     columns: usize,
@@ -67,21 +50,19 @@ pub fn work<P: Plan + Drop, Q: Quantiser + Drop>(
     places: &mut [usize],
     errors: &mut [Q::Tone],
     calls: &[Call<'_>],
-    answers: &mut [Answer<Q::Tone>],
-) -> u8
-    ensures number { result ≡ (if nat_le (length calls.now) (length answers.old) then open_refusal rows columns (length drawing.now) (length amounts.old) (length codes.old) else 6) }
-    ensures kept { result ≡ 0 → Promise (job_of Q.Tone.Tone.algebra rows columns (P.Plan.meaning plan) (Q.Quantiser.tables quantiser) drawing.now) calls.now answers.old answers.new (pools bytes.old places.old errors.old) (pools bytes.new places.new errors.new) (band codes.new amounts.new) }
-    ensures refused { (result ≢ 0) → ran_of answers.new (band codes.new amounts.new) (pools bytes.new places.new errors.new) ≡ ran_of answers.old (band codes.old amounts.old) (pools bytes.old places.old errors.old) }
+    answers: &mut [Result<Answer<Q::Tone>, Refusal>],
+) -> Result<(), Refusal>
+    ensures number { refusal_number result ≡ (if nat_le (length calls.now) (length answers.old) then open_refusal rows columns (length drawing.now) (length amounts.old) (length codes.old) else 6) }
+    ensures kept { OnOk result (Promise (job_of Q.Tone.Tone.algebra rows columns (P.Plan.meaning plan) (Q.Quantiser.tables quantiser) drawing.now) calls.now answers.old answers.new (pools bytes.old places.old errors.old) (pools bytes.new places.new errors.new) (band codes.new amounts.new)) }
+    ensures refused { OnErr result (ran_of answers.new (band codes.new amounts.new) (pools bytes.new places.new errors.new) ≡ ran_of answers.old (band codes.old amounts.old) (pools bytes.old places.old errors.old)) }
 {
     if answers.len() < calls.len() {
-        return Refusal::OutputTooShort.number();
+        return Err(Refusal::OutputTooShort);
     }
-    let (refusal, job) = Job::open(rows, columns, plan, quantiser, drawing, amounts, codes);
-    if refusal != 0 {
-        return refusal;
-    }
+    let size = open_bands(rows, columns, drawing, amounts, codes)?;
+    let job = Job::new(size, plan, quantiser);
     work_on(
         &job, drawing, amounts, codes, bytes, places, errors, calls, answers,
     );
-    0
+    Ok(())
 }

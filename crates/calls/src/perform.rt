@@ -65,39 +65,25 @@ pub(crate) fn perform<P: Plan, Q: Quantiser>(
     places: &mut [usize],
     errors: &mut [Q::Tone],
     call: Call<'_>,
-) -> Answer<Q::Tone>
+) -> Result<Answer<Q::Tone>, Refusal>
     ensures { done (answer_of result) (band codes.new amounts.new) (pools bytes.new places.new errors.new) ≡ step (meant Q.Tone.Tone.algebra P.Plan.meaning Q.Quantiser.tables job.now drawing.now) (call_of call.entry) (band codes.old amounts.old) (pools bytes.old places.old errors.old) }
 {
-    match call {
-        Call::Fix(row, column) => match job.fix(drawing, amounts, codes, row, column) {
-            Ok(code) => Answer::Code(code),
-            Err(refusal) => Answer::Refused(refusal),
-        },
+    let answer = match call {
+        Call::Fix(row, column) => Answer::Code(job.fix(drawing, amounts, codes, row, column)?),
         Call::Follow(list) => {
-            let (count, refusal) = job.follow(drawing, amounts, codes, list);
-            Answer::Followed(count, refusal)
+            let (accepted, refusal) = job.follow(drawing, amounts, codes, list);
+            Answer::Followed(accepted, refusal)
         }
-        Call::Finish => match job.finish(drawing, amounts, codes) {
-            Ok(count) => Answer::Count(count),
-            Err(refusal) => Answer::Refused(refusal),
-        },
-        Call::Halt(window) => match halt_in(job, drawing, amounts, codes, bytes, window) {
-            Ok(count) => Answer::Count(count),
-            Err(refusal) => Answer::Refused(refusal),
-        },
-        Call::Resume(saved) => match job.resume(drawing, amounts, codes, saved) {
-            Ok(_) => Answer::Resumed,
-            Err(refusal) => Answer::Refused(refusal),
-        },
-        Call::Tally => match job.tally(drawing, amounts, codes) {
-            Ok(totals) => Answer::Totals(totals),
-            Err(refusal) => Answer::Refused(refusal),
-        },
-        Call::Losses(at, of) => match losses_in(
+        Call::Finish => Answer::Count(job.finish(drawing, amounts, codes)?),
+        Call::Halt(window) => Answer::Count(halt_in(job, drawing, amounts, codes, bytes, window)?),
+        Call::Resume(saved) => {
+            job.resume(drawing, amounts, codes, saved)?;
+            Answer::Resumed
+        }
+        Call::Tally => Answer::Totals(job.tally(drawing, amounts, codes)?),
+        Call::Losses(at, of) => Answer::Count(losses_in(
             job, drawing, amounts, codes, places, errors, at, of,
-        ) {
-            Ok(count) => Answer::Count(count),
-            Err(refusal) => Answer::Refused(refusal),
-        },
-    }
+        )?),
+    };
+    Ok(answer)
 }

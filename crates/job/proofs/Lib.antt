@@ -13,7 +13,8 @@ pub mod Outputs
 pub mod Parting
 pub mod Parts
 pub mod Passes
-pub mod Readies
+pub mod Ranges
+mod Readies
 mod Reading
 pub mod Refusing
 pub mod Resuming

@@ -1,6 +1,6 @@
 -- A row in steps of a whole column period: the columns between have other ranks, and inner squares have the same pattern.
-use Rattle.std.proofs.Common.{◌≡◌, ℕ, ◌+◌, ◌-◌, ◌*◌, ◌%◌, ◌<◌, ◌≤◌, ltb, get_or, Some, sym, refl, ap, ◌∙◌, subst, ap₂, inl, inr, mod-eq_of_lt, mul_comm, arith}
-use native.Mathlib.Nat.{mod-add-mod, mod-eq-sub-mod, add-mod_right}
+use Rattle.std.proofs.Common.{◌≡◌, ℕ, ◌+◌, ◌-◌, ◌*◌, ◌%◌, ◌<◌, ◌≤◌, ltb, get_or, min, Some, None, Option, MatchOption, ◌≢◌, sym, refl, ap, ◌∙◌, subst, ap₂, inl, inr, mod-eq_of_lt, mul_comm, arith}
+use native.Mathlib.Nat.{mod-le, mod-add-mod, mod-eq-sub-mod, add-mod_right}
 use Rattle.std.proofs.lemmas.Nat.{mul-add-lt, mod_below}
 use Rattle.std.proofs.lemmas.Bool.{cond-true, lt-ltb, cases_lt, cases_order}
 use Rattle.tone.specs.Algebra.{Algebra}
@@ -17,7 +17,7 @@ use Rattle.diffusion.specs.Drawings.{plain_drawing, setting_of}
 use Rattle.diffusion.specs.Neighbourhoods.{Neighbourhood}
 use Rattle.diffusion.proofs.Lines.{lays_out}
 use Rattle.job.specs.Patterns.{compared, kind_of, kind_at, PatternOf}
-use Rattle.job.specs.Periods.{First, Lone, Inner}
+use Rattle.job.specs.Periods.{First, FirstAt, Lone, Inner}
 use Rattle.job.specs.Progress.{progress, visited, passed_from}
 use Rattle.job.specs.declared.kind.Kind.TheVariants.{Neither}
 use Rattle.job.specs.declared.pattern.Pattern.{Pattern}
@@ -76,37 +76,40 @@ module _ (plan : Ranks) (law : plans.Lawful plan) where
   reduced_rank : (row k : ℕ) → plan.rank row (k % plan.column_period) ≡ plan.rank row k
   reduced_rank row k = same_rank row (k % plan.column_period) k (mod-eq_of_lt (within_period k))
 
-  module _ (columns rank row : ℕ) where
-    -- the first column of a period with the rank
-    pub first_found : (column : ℕ) → column < plan.column_period → plan.rank row column ≡ rank → ((k : ℕ) → k < column → plan.rank row k ≡ rank → ⊥) → First columns plan rank row column
-    first_found column within has others = record { within = λ _. within; has = λ _. has; before = λ k _ l. others k l }
-
-    -- a rank that no column of one period has is nowhere in the row
-    pub first_none : ((k : ℕ) → k < plan.column_period → plan.rank row k ≡ rank → ⊥) → First columns plan rank row columns
-    first_none lacks = record {
-      within = λ l. absurd (omega arith);
-      has = λ l. absurd (omega arith);
-      before = λ k _ _ is. lacks (k % plan.column_period) (within_period k) (reduced_rank row k ∙ is);
-    }
+  module _ (rank row : ℕ) where
+    -- what a search of one period finds, as far as it lies in the drawing
+    pub first_found : (columns many : ℕ) → many ≡ min plan.column_period columns → (first : Option ℕ)
+        → MatchOption first ((k : ℕ) → 0 ≤ k → k < many → plan.rank row k ≢ rank)
+        (λ i. (0 ≤ i) × (i < many) × (plan.rank row i ≡ rank) × ((k : ℕ) → 0 ≤ k → k < i → plan.rank row k ≢ rank)) → First columns plan rank row first
+    first_found columns many least None h = λ k inside is.
+        let m = k % plan.column_period in
+        let below : m ≤ k = mod-le k plan.column_period in
+        let within = within_period k in
+        h m (omega arith) (omega (arith, least)) (reduced_rank row k ∙ is)
+    first_found columns many least (Some first) h = record { inside = omega (arith, least, h.1); within = omega (arith, least, h.1); has = h.2; before = λ k. h.3 k (omega arith) }
 
     -- rows that are equal modulo the row period have the same first column
-    pub first_same : (other first : ℕ) → other % plan.row_period ≡ row % plan.row_period → First columns plan rank other first → First columns plan rank row first
-    first_same other first same at =
-        let ranks : (c : ℕ) → plan.rank other c ≡ plan.rank row c
-        = λ c. law.repeats other c ∙ ap (λ r. plan.rank r (c % plan.column_period)) same ∙ sym (law.repeats row c) in
-        record { within = at.within; has = λ l. sym (ranks first) ∙ at.has l; before = λ k inside l is. at.before k inside l (ranks k ∙ is) }
+    pub first_same : (columns other : ℕ) (first : Option ℕ) → other % plan.row_period ≡ row % plan.row_period → First columns plan rank other first → First columns plan rank row first
+    first_same columns other first same = by first
+      where
+        ranks : (c : ℕ) → plan.rank other c ≡ plan.rank row c
+        ranks c = law.repeats other c ∙ ap (λ r. plan.rank r (c % plan.column_period)) same ∙ sym (law.repeats row c)
+
+        by : (first : Option ℕ) → First columns plan rank other first → First columns plan rank row first
+        by None at = λ k inside is. at k inside (ranks k ∙ is)
+        by (Some first) at = record { inside = at.inside; within = at.within; has = sym (ranks first) ∙ at.has; before = λ k l is. at.before k l (ranks k ∙ is) }
 
     -- a first column that is the only one of its period
-    pub lone : (first : ℕ) → first < columns → First columns plan rank row first → ((k : ℕ) → first < k → k < plan.column_period → plan.rank row k ≡ rank → ⊥) → Lone plan rank row first
-    lone first inside at others = record {
-      within = at.within inside;
-      has = at.has inside;
+    pub lone : (columns first : ℕ) → FirstAt columns plan rank row first → ((k : ℕ) → first < k → k < plan.column_period → plan.rank row k ≡ rank → ⊥) → Lone plan rank row first
+    lone columns first at others = record {
+      within = at.within;
+      has = at.has;
       only = λ column is.
           let m = column % plan.column_period in
           let here : plan.rank row m ≡ rank = reduced_rank row column ∙ is in
           elim (cases_order m first) [
             | inl same ↦ same
-            | inr (inl l) ↦ absurd (at.before m (omega arith) l here)
+            | inr (inl l) ↦ absurd (at.before m l here)
             | inr (inr l) ↦ absurd (others m l (within_period column) here)
           ];
     }
@@ -167,11 +170,11 @@ module _ {T : Type 0} (tone : Algebra T) (rows columns : ℕ) (plan : Ranks) (la
   place_rank k l = (lays_out rows columns plan law).rank row k l
 
   -- a row without the rank is passed over
-  pub row_lacks : (first : ℕ) → columns ≤ first → First columns plan rank row first → progress 0 start ≡ passed_from setting rank (row * columns) columns start
-  row_lacks first out at =
+  pub row_lacks : ((column : ℕ) → column < columns → plan.rank row column ≢ rank) → progress 0 start ≡ passed_from setting rank (row * columns) columns start
+  row_lacks lacks =
       let whole : 0 + columns ≡ columns = omega arith in
       from_quiet setting rank (row * columns) 0 columns 0 start start (sym (from_none setting rank (row * columns) start))
-      (λ m low high is. at.before m (omega arith) (omega arith) (sym (place_rank m (omega arith)) ∙ is))
+      (λ m low high is. lacks m (omega arith) (sym (place_rank m (omega arith)) ∙ is))
       ∙ ap (λ n. passed_from setting rank (row * columns) n start) whole
 
   -- what the steps keep: the row is passed up to each column less than a period before the next step

@@ -19,6 +19,8 @@ mod resume;
 mod spread;
 mod tally;
 
+pub use open::open_bands;
+
 // The fields are private: a job whose plan were exchanged would no longer be the one that was opened.
 #[derive(Drop)]
 pub struct Job<P, Q> {

@@ -9,5 +9,5 @@ mod pattern;
 mod record;
 mod totals;
 
-pub use job::Job;
+pub use job::{Job, open_bands};
 pub use totals::Totals;

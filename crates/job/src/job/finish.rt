@@ -1,11 +1,11 @@
 // Finish: every square that is still open, rank by rank.
-ghost use Rattle.std.specs.Prelude.{◌≡◌, ℕ, ◌+◌, ◌*◌, ◌%◌, ◌<◌, ◌≤◌, true, length, slice_index};
+ghost use Rattle.std.specs.Prelude.{◌≡◌, ℕ, ◌+◌, ◌*◌, ◌%◌, ◌<◌, ◌≤◌, true, length, None, slice_index_or};
 ghost use Rattle.model.specs.Calls.{told};
 ghost use Rattle.model.specs.Steps.{finish_on};
 ghost use Rattle.job.specs.Answers.{counted};
 ghost use Rattle.job.specs.Meaning.{squares_of, meant, setting_by, band};
 ghost use Rattle.job.specs.Patterns.{PatternOf};
-ghost use Rattle.job.specs.Periods.{First, Lone, Inner};
+ghost use Rattle.job.specs.Periods.{First, FirstAt, Lone, Inner};
 ghost use Rattle.job.specs.Progress.{progress, visited, passed_from, passed_below, swept_below, LowerStand};
 
 use crate::job::Job;
@@ -65,24 +65,20 @@ impl<P: Plan, Q: Quantiser> Job<P, Q> {
         count
     }
 
-    // The first column of a row with a rank; the number of columns where there is none. The ranks repeat, so that one period tells.
-    fn first_column(&self, rank: u8, row: usize) -> usize
+    // The first column of a row with a rank, if there is one. The ranks repeat, so that one period tells.
+    fn first_column(&self, rank: u8, row: usize) -> Option<usize>
         ensures { First self.now.size.columns (P.Plan.meaning self.now.plan) rank row result }
     {
-        for column in 0..self.plan.column_period() {
-            if self.plan.rank(row, column) == rank {
-                return column;
-            }
-        }
-        self.size.columns
+        let period = self.plan.column_period();
+        (0..period.min(self.size.columns)).find(|column| self.plan.rank(row, *column) == rank)
     }
 
     // The same for each row of the first period: asked once for a rank, they serve every row.
-    fn first_columns(&self, rank: u8) -> [usize; 16]
+    fn first_columns(&self, rank: u8) -> [Option<usize>; 16]
         ensures full { length result ≡ 16 }
-        ensures each { (row : ℕ) → row < (P.Plan.meaning self.now.plan).row_period → row < self.now.size.rows → First self.now.size.columns (P.Plan.meaning self.now.plan) rank row (slice_index result row) }
+        ensures each { (row : ℕ) → row < (P.Plan.meaning self.now.plan).row_period → row < self.now.size.rows → First self.now.size.columns (P.Plan.meaning self.now.plan) rank row (slice_index_or result row None) }
     {
-        let mut firsts = [0; 16];
+        let mut firsts = [None; 16];
         for row in 0..self.plan.row_period().min(self.size.rows) {
             firsts[row] = self.first_column(rank, row);
         }
@@ -91,16 +87,10 @@ impl<P: Plan, Q: Quantiser> Job<P, Q> {
 
     // Whether the first column of a row with a rank is the only one of its period.
     fn is_lone(&self, rank: u8, row: usize, first: usize) -> bool
-        requires inside { first < self.now.size.columns }
-        requires first { First self.now.size.columns (P.Plan.meaning self.now.plan) rank row first }
+        requires { FirstAt self.now.size.columns (P.Plan.meaning self.now.plan) rank row first }
         ensures { result ≡ true → Lone (P.Plan.meaning self.now.plan) rank row first }
     {
-        for column in first + 1..self.plan.column_period() {
-            if self.plan.rank(row, column) == rank {
-                return false;
-            }
-        }
-        true
+        (first + 1..self.plan.column_period()).all(|column| self.plan.rank(row, column) != rank)
     }
 
     // Whether the squares of a row from one column to another touch no edge.
@@ -155,14 +145,15 @@ impl<P: Plan, Q: Quantiser> Job<P, Q> {
         count
     }
 
-    // Fixes the ready squares of one rank in a row, whose first column is told, and answers how many: by steps of a period where it has one such column.
+    // Fixes the ready squares of one rank in a row, whose first column is told, and answers how many: by steps of a period where it has one
+    // such column.
     fn pass_row(
         &self,
         amounts: &mut [Q::Tone],
         codes: &mut [u8],
         rank: u8,
         row: usize,
-        first: usize,
+        first: Option<usize>,
     ) -> usize
         requires row { row < self.now.size.rows }
         requires first { First self.now.size.columns (P.Plan.meaning self.now.plan) rank row first }
@@ -172,9 +163,9 @@ impl<P: Plan, Q: Quantiser> Job<P, Q> {
         ensures few { result ≤ self.now.size.columns }
         ensures after { progress result (band codes.new amounts.new) ≡ passed_from (setting_by Q.Tone.Tone.algebra P.Plan.meaning Q.Quantiser.tables self.now) rank (row * self.now.size.columns) self.now.size.columns (band codes.old amounts.old) }
     {
-        if first >= self.size.columns {
+        let Some(first) = first else {
             return 0;
-        }
+        };
         if self.is_lone(rank, row, first) {
             self.stride_row(amounts, codes, rank, row, first)
         } else {

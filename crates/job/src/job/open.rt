@@ -1,5 +1,6 @@
 // Open: a new job on a drawing.
-ghost use Rattle.std.specs.Prelude.{◌≡◌, length};
+ghost use Rattle.std.specs.Prelude.{◌≡◌, length, MatchResult};
+ghost use Rattle.refusal.specs.Numbers.{number_of};
 ghost use Rattle.model.specs.Openings.{open_refusal, unless, opened_on};
 ghost use Rattle.job.specs.Meaning.{band};
 
@@ -10,9 +11,31 @@ use plan::Plan;
 use quantiser::Quantiser;
 use refusal::Refusal;
 
+// Opens every square in lent bands and lays the drawing into the amounts: 1 for the size, then 2 for a band. A refusal leaves the bands as they
+// were.
+pub fn open_bands<T: Copy>(
+    rows: usize,
+    columns: usize,
+    drawing: &[T],
+    amounts: &mut [T],
+    codes: &mut [u8],
+) -> Result<Size, Refusal>
+    ensures number { MatchResult result (λ size. (size.rows ≡ rows) × (size.columns ≡ columns) × (open_refusal rows columns (length drawing.now) (length amounts.old) (length codes.old) ≡ 0)) (λ e. open_refusal rows columns (length drawing.now) (length amounts.old) (length codes.old) ≡ number_of e) }
+    ensures bands { MatchResult result (λ size. band codes.new amounts.new ≡ opened_on drawing.now (band codes.old amounts.old)) (λ e. band codes.new amounts.new ≡ band codes.old amounts.old) }
+{
+    let size = Size::new(rows, columns)?;
+    let squares = size.squares();
+    if drawing.len() != squares || amounts.len() != squares || codes.len() != squares {
+        return Err(Refusal::BandLength);
+    }
+    codes.fill(OPEN);
+    amounts.copy_from_slice(drawing);
+    Ok(size)
+}
+
 impl<P: Plan, Q: Quantiser> Job<P, Q> {
     // Opens a job: 0 and the job, with every square open and the drawing in the amounts; or the number of a refusal, 1 for the size and then
-    // 2 for a band, and a job of one square.
+    // 2 for a band, and a job of one square. The number stands beside the job so that plan and quantiser are never lost to a refusal.
     pub fn open(
         rows: usize,
         columns: usize,
@@ -29,47 +52,15 @@ impl<P: Plan, Q: Quantiser> Job<P, Q> {
         ensures quantiser { result.1.quantiser ≡ quantiser }
         ensures bands { band codes.new amounts.new ≡ unless result.0 (opened_on drawing.now (band codes.old amounts.old)) (band codes.old amounts.old) }
     {
-        let size = match Size::new(rows, columns) {
-            Ok(size) => size,
+        match open_bands(rows, columns, drawing, amounts, codes) {
+            Ok(size) => (0, Job::new(size, plan, quantiser)),
             Err(refusal) => {
                 let size = Size {
                     rows: 1,
                     columns: 1,
                 };
-                return (
-                    refusal.number(),
-                    Job {
-                        size,
-                        plan,
-                        quantiser,
-                    },
-                );
+                (refusal.number(), Job::new(size, plan, quantiser))
             }
-        };
-        let squares = size.squares();
-        if drawing.len() != squares || amounts.len() != squares || codes.len() != squares {
-            let size = Size {
-                rows: 1,
-                columns: 1,
-            };
-            return (
-                Refusal::BandLength.number(),
-                Job {
-                    size,
-                    plan,
-                    quantiser,
-                },
-            );
         }
-        codes.fill(OPEN);
-        amounts.copy_from_slice(drawing);
-        (
-            0,
-            Job {
-                size,
-                plan,
-                quantiser,
-            },
-        )
     }
 }

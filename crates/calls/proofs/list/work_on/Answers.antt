@@ -1,16 +1,17 @@
 use Rattle.std.proofs.Common.{arith}
+use Rattle.std.proofs.lemmas.List.{get_or_default}
 use Rattle.model.specs.Calls.{pools}
 use Rattle.job.specs.Meaning.{meant, band}
-use Rattle.calls.proofs.Turns.{turn_by, turned}
+use Rattle.calls.proofs.Turns.{turn, turned}
 use Rattle.calls.proofs.list.work_on.Goals as goal
 
 pub loop-i-preserved : goal.loop-i-preserved
 loop-i-preserved g c =
-    turn_by (meant g.Q.Tone.Tone.algebra g.P.Plan.meaning g.Q.Quantiser.tables c.args.job.now c.args.drawing.now) c.args.calls.now c.args.answers.now _ c.loop-i.i c.call_at-call.result
-    c.loop-i.answers c.put.new.list c.perform-answer.result
+    turn (meant g.Q.Tone.Tone.algebra g.P.Plan.meaning g.Q.Quantiser.tables c.args.job.now c.args.drawing.now) c.args.calls.now c.args.answers.now _ c.loop-i.i _
+    c.loop-i.answers c.perform-answer.result
     (band c.loop-i.codes c.loop-i.amounts) (band c.perform-answer.new.codes c.perform-answer.new.amounts)
     (pools c.loop-i.bytes c.loop-i.places c.loop-i.errors) (pools c.perform-answer.new.bytes c.perform-answer.new.places c.perform-answer.new.errors)
-    (omega arith) (omega arith) c.call_at-call.ensures c.perform-answer.ensures c.put.ensures c.loop-i.invariant
+    c.loop-i-test.true (omega arith) (get_or_default c.args.calls.now c.loop-i.i _ _ c.loop-i-test.true) c.perform-answer.ensures c.loop-i.invariant
 
 pub returns : goal.returns
 returns g c =

@@ -34,7 +34,7 @@ pass_row-count-requires g c =
     let j = setting_by g.Q.Tone.Tone.algebra g.P.Plan.meaning g.Q.Quantiser.tables job in
     record {
       row = c.loop-row-test.true;
-      first = first_same plan law job.size.columns c.args.rank row phase _ (mod-eq_of_lt short ∙ inv.1) (c.first_columns-firsts.ensures.each phase short (omega (arith, inv.0, c.loop-row-test.true)));
+      first = first_same plan law c.args.rank row job.size.columns phase _ (mod-eq_of_lt short ∙ inv.1) (c.first_columns-firsts.ensures.each phase short (omega (arith, inv.0, c.loop-row-test.true)));
       lower = lower-below j c.args.rank (row * job.size.columns) c.loop-row.count (band c.args.codes.now c.args.amounts.now) (band c.loop-row.codes c.loop-row.amounts) inv.3 c.requires.lower;
       amounts = omega (arith, c.requires.amounts);
       codes = omega (arith, c.requires.codes);
