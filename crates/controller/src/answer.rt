@@ -15,57 +15,53 @@ pub struct Answer {
 }
 
 // A refusal, with a count of 0.
-pub(crate) fn refused(refusal: Refusal) -> Answer
-    ensures { result ≡ answer 0 (number_of refusal) }
-{
-    Answer {
-        count: 0,
-        refusal: refusal.number(),
+impl From<Refusal> for Answer {
+    ghost from_gives = { λ refusal told. told ≡ answer 0 (number_of refusal) };
+
+    fn from(refusal: Refusal) -> Answer {
+        Answer {
+            count: 0,
+            refusal: refusal.number(),
+        }
     }
 }
 
 // A count, or why there is none.
-pub(crate) fn count_told(told: Result<usize, Refusal>) -> Answer
-    ensures { result ≡ shown (counted told) }
-{
-    match told {
-        Ok(count) => Answer { count, refusal: 0 },
-        Err(refusal) => refused(refusal),
+impl From<Result<usize, Refusal>> for Answer {
+    ghost from_gives = { λ call told. told ≡ shown (counted call) };
+
+    fn from(call: Result<usize, Refusal>) -> Answer {
+        match call {
+            Ok(count) => Answer { count, refusal: 0 },
+            Err(refusal) => Answer::from(refusal),
+        }
     }
 }
 
 // A code, or why there is none.
-pub(crate) fn code_told(told: Result<u8, Refusal>) -> Answer
-    ensures { result ≡ shown (coded told) }
-{
-    match told {
-        Ok(code) => Answer {
-            count: code as usize,
-            refusal: 0,
-        },
-        Err(refusal) => refused(refusal),
-    }
-}
+impl From<Result<u8, Refusal>> for Answer {
+    ghost from_gives = { λ call told. told ≡ shown (coded call) };
 
-// How many were accepted, and the number of what was refused or 0.
-pub(crate) fn follow_told(told: (usize, u8)) -> Answer
-    ensures { result ≡ shown (followed told) }
-{
-    Answer {
-        count: told.0,
-        refusal: told.1,
+    fn from(call: Result<u8, Refusal>) -> Answer {
+        Answer::from(call.map(usize::from))
     }
 }
 
 // Acceptance, or why not.
-pub(crate) fn resume_told(told: Result<(), Refusal>) -> Answer
-    ensures { result ≡ shown (resumed told) }
-{
-    match told {
-        Ok(_) => Answer {
-            count: 0,
-            refusal: 0,
-        },
-        Err(refusal) => refused(refusal),
+impl From<Result<(), Refusal>> for Answer {
+    ghost from_gives = { λ call told. told ≡ shown (resumed call) };
+
+    fn from(call: Result<(), Refusal>) -> Answer {
+        Answer::from(call.map(|()| 0usize))
+    }
+}
+
+// How many were accepted, and the number of what was refused or 0.
+impl From<(usize, u8)> for Answer {
+    ghost from_gives = { λ pair told. told ≡ shown (followed pair) };
+
+    fn from(pair: (usize, u8)) -> Answer {
+        let (count, refusal) = pair;
+        Answer { count, refusal }
     }
 }

@@ -6,7 +6,7 @@ ghost use Rattle.model.specs.Steps.{finish_on};
 ghost use Rattle.job.specs.Meaning.{band};
 ghost use Rattle.controller.specs.Exports.{grey_job, sized, shown};
 
-use crate::answer::{Answer, count_told, refused};
+use crate::answer::Answer;
 use crate::make::make;
 use tone::Grey;
 
@@ -24,7 +24,7 @@ pub extern "C" fn sumbelgo_finish(
     ensures bands { band codes.new amounts.new ≡ (sized rows columns (finish_on (grey_job rows columns least drawing.now) (band codes.old amounts.old)) (told (Refused 1) (band codes.old amounts.old))).state }
 {
     match make(rows, columns, least) {
-        Ok(job) => count_told(job.finish(drawing, amounts, codes)),
-        Err(refusal) => refused(refusal),
+        Ok(job) => Answer::from(job.finish(drawing, amounts, codes)),
+        Err(refusal) => Answer::from(refusal),
     }
 }

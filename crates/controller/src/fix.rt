@@ -6,7 +6,7 @@ ghost use Rattle.model.specs.Steps.{fix_on};
 ghost use Rattle.job.specs.Meaning.{band};
 ghost use Rattle.controller.specs.Exports.{grey_job, sized, shown};
 
-use crate::answer::{Answer, code_told, refused};
+use crate::answer::Answer;
 use crate::make::make;
 use tone::Grey;
 
@@ -27,7 +27,7 @@ pub extern "C" fn sumbelgo_fix(
     ensures bands { band codes.new amounts.new ≡ (sized rows columns (fix_on (grey_job rows columns least drawing.now) row column (band codes.old amounts.old)) (told (Refused 1) (band codes.old amounts.old))).state }
 {
     match make(rows, columns, least) {
-        Ok(job) => code_told(job.fix(drawing, amounts, codes, row, column)),
-        Err(refusal) => refused(refusal),
+        Ok(job) => Answer::from(job.fix(drawing, amounts, codes, row, column)),
+        Err(refusal) => Answer::from(refusal),
     }
 }

@@ -6,7 +6,7 @@ ghost use Rattle.model.specs.Steps.{follow_on};
 ghost use Rattle.job.specs.Meaning.{band};
 ghost use Rattle.controller.specs.Exports.{grey_job, sized, shown};
 
-use crate::answer::{Answer, follow_told, refused};
+use crate::answer::Answer;
 use crate::make::make;
 use tone::Grey;
 
@@ -26,7 +26,7 @@ pub extern "C" fn sumbelgo_follow(
     ensures bands { band codes.new amounts.new ≡ (sized rows columns (follow_on (grey_job rows columns least drawing.now) places.now (band codes.old amounts.old)) (told (Refused 1) (band codes.old amounts.old))).state }
 {
     match make(rows, columns, least) {
-        Ok(job) => follow_told(job.follow(drawing, amounts, codes, places)),
-        Err(refusal) => refused(refusal),
+        Ok(job) => Answer::from(job.follow(drawing, amounts, codes, places)),
+        Err(refusal) => Answer::from(refusal),
     }
 }

@@ -6,7 +6,7 @@ ghost use Rattle.model.specs.Steps.{halt_on};
 ghost use Rattle.job.specs.Meaning.{band};
 ghost use Rattle.controller.specs.Exports.{grey_job, sized, shown};
 
-use crate::answer::{Answer, count_told, refused};
+use crate::answer::Answer;
 use crate::make::make;
 use tone::Grey;
 
@@ -25,7 +25,7 @@ pub extern "C" fn sumbelgo_halt(
     ensures out { out.new ≡ (sized rows columns (halt_on (grey_job rows columns least drawing.now) (band codes.now amounts.now) out.old) (wrote (Refused 1) out.old)).out }
 {
     match make(rows, columns, least) {
-        Ok(job) => count_told(job.halt(drawing, amounts, codes, out)),
-        Err(refusal) => refused(refusal),
+        Ok(job) => Answer::from(job.halt(drawing, amounts, codes, out)),
+        Err(refusal) => Answer::from(refusal),
     }
 }

@@ -6,7 +6,7 @@ ghost use Rattle.model.specs.Steps.{losses_on};
 ghost use Rattle.job.specs.Meaning.{band};
 ghost use Rattle.controller.specs.Exports.{grey_job, sized, shown};
 
-use crate::answer::{Answer, count_told, refused};
+use crate::answer::Answer;
 use crate::make::make;
 use tone::Grey;
 
@@ -28,7 +28,7 @@ pub extern "C" fn sumbelgo_losses(
     ensures errors { errors.new ≡ (sized rows columns (losses_on (grey_job rows columns least drawing.now) (band codes.now amounts.now) places.old errors.old) (listed (Refused 1) places.old errors.old)).errors }
 {
     match make(rows, columns, least) {
-        Ok(job) => count_told(job.losses(drawing, amounts, codes, places, errors)),
-        Err(refusal) => refused(refusal),
+        Ok(job) => Answer::from(job.losses(drawing, amounts, codes, places, errors)),
+        Err(refusal) => Answer::from(refusal),
     }
 }

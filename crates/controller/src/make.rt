@@ -17,8 +17,6 @@ pub(crate) fn make(
 ) -> Result<Job<Knuth, Threshold>, Refusal>
     ensures { MatchResult result (λ j. Made rows columns least j) (λ e. Barred rows columns (number_of e)) }
 {
-    match Size::new(rows, columns) {
-        Ok(size) => Ok(Job::new(size, Knuth, Threshold { least })),
-        Err(refusal) => Err(refusal),
-    }
+    let size = Size::new(rows, columns)?;
+    Ok(Job::new(size, Knuth, Threshold { least }))
 }

@@ -1,7 +1,7 @@
 // Pack, for C.
 ghost use Rattle.controller.specs.Packing.{Packed, PackedAt};
 
-use crate::answer::{Answer, refused};
+use crate::answer::Answer;
 use grid::Size;
 use netpbm::pack;
 
@@ -9,10 +9,7 @@ use netpbm::pack;
 fn pack_at(size: &Size, codes: &[u8], out: &mut [u8]) -> Answer
     ensures { PackedAt size.now.rows size.now.columns codes.now out.old result out.new }
 {
-    match pack(size, codes, out) {
-        Ok(count) => Answer { count, refusal: 0 },
-        Err(refusal) => refused(refusal),
-    }
+    Answer::from(pack(size, codes, out))
 }
 
 // Writes the draft as a raw PBM to the front of the output and answers its length: 1 for the size, then 2 for the codes' length, 6 for an output
@@ -23,6 +20,6 @@ pub extern "C" fn sumbelgo_pack(rows: usize, columns: usize, codes: &[u8], out: 
 {
     match Size::new(rows, columns) {
         Ok(size) => pack_at(&size, codes, out),
-        Err(refusal) => refused(refusal),
+        Err(refusal) => Answer::from(refusal),
     }
 }

@@ -6,7 +6,7 @@ ghost use Rattle.model.specs.Steps.{resume_on};
 ghost use Rattle.job.specs.Meaning.{band};
 ghost use Rattle.controller.specs.Exports.{grey_job, sized, shown};
 
-use crate::answer::{Answer, refused, resume_told};
+use crate::answer::Answer;
 use crate::make::make;
 use tone::Grey;
 
@@ -26,7 +26,7 @@ pub extern "C" fn sumbelgo_resume(
     ensures bands { band codes.new amounts.new ≡ (sized rows columns (resume_on (grey_job rows columns least drawing.now) saved.now (band codes.old amounts.old)) (told (Refused 1) (band codes.old amounts.old))).state }
 {
     match make(rows, columns, least) {
-        Ok(job) => resume_told(job.resume(drawing, amounts, codes, saved)),
-        Err(refusal) => refused(refusal),
+        Ok(job) => Answer::from(job.resume(drawing, amounts, codes, saved)),
+        Err(refusal) => Answer::from(refusal),
     }
 }

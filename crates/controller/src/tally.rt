@@ -22,30 +22,34 @@ pub struct Tally {
 }
 
 // A refusal, with totals of 0.
-pub(crate) fn tally_refused(refusal: Refusal) -> Tally
-    ensures { result ≡ tally no_grey no_grey no_grey no_grey (number_of refusal) }
-{
-    Tally {
-        drawing: Grey::zero(),
-        outputs: Grey::zero(),
-        losses: Grey::zero(),
-        amounts: Grey::zero(),
-        refusal: refusal.number(),
+impl From<Refusal> for Tally {
+    ghost from_gives = { λ refusal told. told ≡ tally no_grey no_grey no_grey no_grey (number_of refusal) };
+
+    fn from(refusal: Refusal) -> Tally {
+        Tally {
+            drawing: Grey::zero(),
+            outputs: Grey::zero(),
+            losses: Grey::zero(),
+            amounts: Grey::zero(),
+            refusal: refusal.number(),
+        }
     }
 }
 
 // Four totals, or why there are none.
-pub(crate) fn tally_told(told: Result<Totals<Grey>, Refusal>) -> Tally
-    ensures { result ≡ tallied (totalled told) }
-{
-    match told {
-        Ok(totals) => Tally {
-            drawing: totals.drawing,
-            outputs: totals.outputs,
-            losses: totals.losses,
-            amounts: totals.amounts,
-            refusal: 0,
-        },
-        Err(refusal) => tally_refused(refusal),
+impl From<Result<Totals<Grey>, Refusal>> for Tally {
+    ghost from_gives = { λ call told. told ≡ tallied (totalled call) };
+
+    fn from(call: Result<Totals<Grey>, Refusal>) -> Tally {
+        match call {
+            Ok(totals) => Tally {
+                drawing: totals.drawing,
+                outputs: totals.outputs,
+                losses: totals.losses,
+                amounts: totals.amounts,
+                refusal: 0,
+            },
+            Err(refusal) => Tally::from(refusal),
+        }
     }
 }

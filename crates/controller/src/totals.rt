@@ -6,7 +6,7 @@ ghost use Rattle.job.specs.Meaning.{band};
 ghost use Rattle.controller.specs.Exports.{grey_job, sized, tallied};
 
 use crate::make::make;
-use crate::tally::{Tally, tally_refused, tally_told};
+use crate::tally::Tally;
 use tone::Grey;
 
 // The four totals: 1 for the size, then 2 for a band.
@@ -22,7 +22,7 @@ pub extern "C" fn sumbelgo_tally(
     ensures { result ≡ tallied (sized rows columns (tally_on (grey_job rows columns least drawing.now) (band codes.now amounts.now)) (Refused 1)) }
 {
     match make(rows, columns, least) {
-        Ok(job) => tally_told(job.tally(drawing, amounts, codes)),
-        Err(refusal) => tally_refused(refusal),
+        Ok(job) => Tally::from(job.tally(drawing, amounts, codes)),
+        Err(refusal) => Tally::from(refusal),
     }
 }

@@ -15,11 +15,11 @@ returns-in-Ok c =
     let barred : ℕ → Wrote Grey = λ n. wrote (Refused n) c.args.out.now in
     let made = subst (λ z. Made c.args.rows c.args.columns z c.in-Ok.job) (to_z-of_z c.ranges.least) c.in-Ok.ensures in
     let done = made_told (Wrote Grey) c.args.rows c.args.columns c.args.least c.args.drawing.now (λ p. halt_on p b c.args.out.now) (barred 1) c.in-Ok.job made _ c.halt.ensures in
-    record { answer = c.count_told.ensures ∙ ap (λ (t : Wrote Grey). shown t.answer) done; out = ap (λ (t : Wrote Grey). t.out) done }
+    record { answer = c.from.ensures ∙ ap (λ (t : Wrote Grey). shown t.answer) done; out = ap (λ (t : Wrote Grey). t.out) done }
 
 pub returns-in-Err : goal.returns-in-Err
 returns-in-Err c =
     let b = band c.args.codes.now c.args.amounts.now in
     let barred : ℕ → Wrote Grey = λ n. wrote (Refused n) c.args.out.now in
     let done = barred_told (Wrote Grey) c.args.rows c.args.columns (number_of c.in-Err.refusal) c.in-Err.ensures (halt_on (grey_job c.args.rows c.args.columns c.args.least c.args.drawing.now) b c.args.out.now) barred in
-    record { answer = c.refused.ensures ∙ ap (λ (t : Wrote Grey). shown t.answer) done; out = ap (λ (t : Wrote Grey). t.out) done }
+    record { answer = c.from-in-Err.ensures ∙ ap (λ (t : Wrote Grey). shown t.answer) done; out = ap (λ (t : Wrote Grey). t.out) done }

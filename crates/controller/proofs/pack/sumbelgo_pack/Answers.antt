@@ -25,6 +25,6 @@ returns-in-Err c =
     let e = c.in-Err.ensures in
     record {
       inside = λ w. absurd (e.1 (Within-from c.args.rows c.args.columns w));
-      refused = λ f. c.refused.ensures ∙ ap (answer 0) e.0;
+      refused = λ f. c.from.ensures ∙ ap (answer 0) e.0;
       kept = λ f. refl;
     }

@@ -16,11 +16,11 @@ returns-in-Ok c =
     let barred : ℕ → Told Grey (Bands Grey) = λ n. told (Refused n) b in
     let made = subst (λ z. Made c.args.rows c.args.columns z c.in-Ok.job) (to_z-of_z c.ranges.least) c.in-Ok.ensures in
     let done = made_told (Told Grey (Bands Grey)) c.args.rows c.args.columns c.args.least c.args.drawing.now (λ p. resume_on p c.args.saved.now b) (barred 1) c.in-Ok.job made _ c.resume.ensures in
-    record { answer = c.resume_told.ensures ∙ ap (λ (t : Told Grey (Bands Grey)). shown t.answer) done; bands = ap (λ (t : Told Grey (Bands Grey)). t.state) done }
+    record { answer = c.from.ensures ∙ ap (λ (t : Told Grey (Bands Grey)). shown t.answer) done; bands = ap (λ (t : Told Grey (Bands Grey)). t.state) done }
 
 pub returns-in-Err : goal.returns-in-Err
 returns-in-Err c =
     let b = band c.args.codes.now c.args.amounts.now in
     let barred : ℕ → Told Grey (Bands Grey) = λ n. told (Refused n) b in
     let done = barred_told (Told Grey (Bands Grey)) c.args.rows c.args.columns (number_of c.in-Err.refusal) c.in-Err.ensures (resume_on (grey_job c.args.rows c.args.columns c.args.least c.args.drawing.now) c.args.saved.now b) barred in
-    record { answer = c.refused.ensures ∙ ap (λ (t : Told Grey (Bands Grey)). shown t.answer) done; bands = ap (λ (t : Told Grey (Bands Grey)). t.state) done }
+    record { answer = c.from-in-Err.ensures ∙ ap (λ (t : Told Grey (Bands Grey)). shown t.answer) done; bands = ap (λ (t : Told Grey (Bands Grey)). t.state) done }
