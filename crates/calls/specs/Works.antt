@@ -64,8 +64,3 @@ filled r old = record { answers = r.answers ++ map answer_of (drop (length r.ans
 pub record Promise {T : Type 0} (p : Job T) (calls : List Call) (old new : List (Outcome T)) (o u : Pools T) (b : Bands T) : Type 0 where
   pub whole : ran_of new b u ≡ filled (carry_ran (bands p.setting) (run (model p) (map call_of calls) none o)) old
   pub holds : HoldsAfter p (map call_of calls) o
-
--- what a list of calls on a new job is refused with; 0 where it is worked
-abbrev pub refusal_number : Result (Unit {0}) Refusal → ℕ
-refusal_number (Ok u) = 0
-refusal_number (Err e) = number_of e

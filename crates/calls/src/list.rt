@@ -5,8 +5,9 @@ ghost use Rattle.model.specs.Jobs.{job_of};
 ghost use Rattle.model.specs.Openings.{open_refusal};
 ghost use Rattle.model.specs.Runs.{run};
 ghost use Rattle.model.specs.Steps.{step};
+ghost use Rattle.job.specs.Answers.{refused};
 ghost use Rattle.job.specs.Meaning.{meant, band};
-ghost use Rattle.calls.specs.Works.{call_of, ran_of, filled, Promise, refusal_number};
+ghost use Rattle.calls.specs.Works.{call_of, ran_of, filled, Promise};
 
 use crate::call::{Answer, Call};
 use crate::perform::perform;
@@ -52,7 +53,7 @@ pub fn work<P: Plan + Drop, Q: Quantiser + Drop>(
     calls: &[Call<'_>],
     answers: &mut [Result<Answer<Q::Tone>, Refusal>],
 ) -> Result<(), Refusal>
-    ensures number { refusal_number result ≡ (if nat_le (length calls.now) (length answers.old) then open_refusal rows columns (length drawing.now) (length amounts.old) (length codes.old) else 6) }
+    ensures number { refused result ≡ (if nat_le (length calls.now) (length answers.old) then open_refusal rows columns (length drawing.now) (length amounts.old) (length codes.old) else 6) }
     ensures kept { OnOk result (Promise (job_of Q.Tone.Tone.algebra rows columns (P.Plan.meaning plan) (Q.Quantiser.tables quantiser) drawing.now) calls.now answers.old answers.new (pools bytes.old places.old errors.old) (pools bytes.new places.new errors.new) (band codes.new amounts.new)) }
     ensures refused { OnErr result (ran_of answers.new (band codes.new amounts.new) (pools bytes.new places.new errors.new) ≡ ran_of answers.old (band codes.old amounts.old) (pools bytes.old places.old errors.old)) }
 {

@@ -80,16 +80,14 @@ opens rows columns d a c size ed ea ec =
     cond-true (within rows columns) _ 1 (within_true rows columns size)
     ∙ cond-true (eqb d (rows * columns) && (eqb a (rows * columns) && eqb c (rows * columns))) 0 2 (and_from _ _ (eq-eqb d _ ed) (and_from _ _ (eq-eqb a _ ea) (eq-eqb c _ ec)))
 
--- the same from what Open tells: its number, the size and the quantiser that the job keeps, and the bands
+-- the same from what the opening of the bands tells, and the size and the quantiser that the job keeps
 pub finished_by : (rows columns number r c : ℕ) (ts : Tables Grey) (drawing : List Grey) (b start after : Bands Grey) (answer : Answer Grey)
     → Within rows columns → length drawing ≡ rows * columns → length b.amounts ≡ rows * columns → length b.codes ≡ rows * columns
     → number ≡ open_refusal rows columns (length drawing) (length b.amounts) (length b.codes)
-    → r ≡ unless number rows 1 → c ≡ unless number columns 1 → ts ≡ tables → start ≡ unless number (opened_on drawing b) b
+    → r ≡ rows → c ≡ columns → ts ≡ tables → start ≡ unless number (opened_on drawing b) b
     → told answer after ≡ finish_on (job_of grey_algebra r c knuth_plan ts drawing) start → after.codes ≡ finished rows columns drawing
 finished_by rows columns number r c ts drawing b start after answer size ld la lc is er ec et eb e =
     let none-refused : number ≡ 0 = is ∙ opens rows columns (length drawing) (length b.amounts) (length b.codes) size ld la lc in
     finish_gives rows columns drawing b after answer ld lc
-    (e ∙ ap (λ n. finish_on (job_of grey_algebra n c knuth_plan ts drawing) start) (er ∙ ap (λ n. unless n rows 1) none-refused)
-    ∙ ap (λ n. finish_on (job_of grey_algebra rows n knuth_plan ts drawing) start) (ec ∙ ap (λ n. unless n columns 1) none-refused)
-    ∙ ap (λ t. finish_on (job_of grey_algebra rows columns knuth_plan t drawing) start) et
+    (e ∙ (λ i. finish_on (job_of grey_algebra (er i) (ec i) knuth_plan (et i) drawing) start)
     ∙ ap (finish_on (job_of grey_algebra rows columns knuth_plan tables drawing)) (eb ∙ ap (λ n. unless n (opened_on drawing b) b) none-refused))

@@ -3,7 +3,7 @@ ghost use Rattle.std.specs.Prelude.{◌≡◌, ◌*◌, length};
 ghost use Rattle.drafting.specs.Drafts.{finished};
 
 use grid::Size;
-use job::Job;
+use job::{Job, open_bands};
 use plan::Knuth;
 use quantiser::Threshold;
 use tone::Grey;
@@ -19,14 +19,7 @@ pub(crate) fn finish_draft(size: &Size, drawing: &[Grey], amounts: &mut [Grey], 
     ensures { codes.new ≡ finished size.now.rows size.now.columns drawing.now }
 {
     let threshold = Threshold { least: LEAST_NET };
-    let (_, job) = Job::open(
-        size.rows,
-        size.columns,
-        Knuth,
-        threshold,
-        drawing,
-        amounts,
-        codes,
-    );
+    let job = Job::new(*size, Knuth, threshold);
+    let _ = open_bands(size.rows, size.columns, drawing, amounts, codes);
     let _ = job.finish(drawing, amounts, codes);
 }

@@ -29,3 +29,8 @@ resumed (Err e) = Refused (number_of e)
 abbrev pub totalled : {T : Type 0} → Result (totals.Totals T) Refusal → Answer T
 totalled (Ok t) = Totals t.drawing t.outputs t.losses t.amounts
 totalled (Err e) = Refused (number_of e)
+
+-- why there is no result, as a number; 0 where there is one
+abbrev pub refused : {X : Type 0} → Result X Refusal → ℕ
+refused (Ok x) = 0
+refused (Err e) = number_of e

@@ -1,7 +1,7 @@
 // Open: a new job on a drawing.
-ghost use Rattle.std.specs.Prelude.{◌≡◌, length, MatchResult};
-ghost use Rattle.refusal.specs.Numbers.{number_of};
+ghost use Rattle.std.specs.Prelude.{◌≡◌, length, IfOk};
 ghost use Rattle.model.specs.Openings.{open_refusal, unless, opened_on};
+ghost use Rattle.job.specs.Answers.{refused};
 ghost use Rattle.job.specs.Meaning.{band};
 
 use crate::job::Job;
@@ -20,8 +20,9 @@ pub fn open_bands<T: Copy>(
     amounts: &mut [T],
     codes: &mut [u8],
 ) -> Result<Size, Refusal>
-    ensures number { MatchResult result (λ size. (size.rows ≡ rows) × (size.columns ≡ columns) × (open_refusal rows columns (length drawing.now) (length amounts.old) (length codes.old) ≡ 0)) (λ e. open_refusal rows columns (length drawing.now) (length amounts.old) (length codes.old) ≡ number_of e) }
-    ensures bands { MatchResult result (λ size. band codes.new amounts.new ≡ opened_on drawing.now (band codes.old amounts.old)) (λ e. band codes.new amounts.new ≡ band codes.old amounts.old) }
+    ensures number { refused result ≡ open_refusal rows columns (length drawing.now) (length amounts.old) (length codes.old) }
+    ensures size { IfOk result (λ size. (size.rows ≡ rows) × (size.columns ≡ columns)) }
+    ensures bands { band codes.new amounts.new ≡ unless (refused result) (opened_on drawing.now (band codes.old amounts.old)) (band codes.old amounts.old) }
 {
     let size = Size::new(rows, columns)?;
     let squares = size.squares();

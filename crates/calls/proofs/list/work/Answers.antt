@@ -1,13 +1,13 @@
 use Rattle.std.proofs.Common.{◌≡◌, leb, map, length, sym, ap, ◌∙◌, arith, rules}
 use Rattle.std.proofs.lemmas.Bool.{le-leb, cond-true}
-use Rattle.refusal.specs.Numbers.{number_of}
 use Rattle.model.specs.Calls.{pools}
 use Rattle.model.specs.Jobs.{job_of}
 use Rattle.model.specs.Runs.{run}
 use Rattle.model.specs.Steps.{step}
 use Rattle.model.proofs.Opened.{lawful_job, opened_on_is}
+use Rattle.job.specs.Answers.{refused}
 use Rattle.job.specs.Meaning.{meant, band}
-use Rattle.calls.specs.Works.{call_of, filled, refusal_number}
+use Rattle.calls.specs.Works.{call_of, filled}
 use Rattle.calls.proofs.Promised.{opened_lengths, promised}
 use Rattle.calls.proofs.list.work.Goals as goal
 
@@ -15,8 +15,8 @@ pub returns-in_err-size-clause-number : goal.returns-in_err-size-clause-number
 returns-in_err-size-clause-number g c =
     let long = length c.args.calls.now in
     let room = length c.args.answers.now in
-    let is : refusal_number c.from_residual.result ≡ number_of c.in_err-size.field-0.0 = search rules in
-    is ∙ sym (cond-true (leb long room) _ 6 (le-leb _ _ (omega arith)) ∙ c.in_err-size.ensures.number)
+    let is : refused c.from_residual.result ≡ refused c.open_bands.result = search rules in
+    is ∙ c.open_bands.ensures.number ∙ sym (cond-true (leb long room) _ 6 (le-leb _ _ (omega arith)))
 
 pub returns-clause-kept : goal.returns-clause-kept
 returns-clause-kept g c =
@@ -31,8 +31,9 @@ returns-clause-kept g c =
     let start = band c.open_bands.new.codes c.open_bands.new.amounts in
     let o = pools c.args.bytes.now c.args.places.now c.args.errors.now in
     let p = job_of tone rows columns (ranks c.args.plan) (tables c.args.quantiser) drawing in
-    let told = c.in_ok-size.ensures.number in
-    let long = opened_lengths rows columns (length drawing) (length c.args.amounts.now) (length c.args.codes.now) told.2 in
+    let told = c.in_ok-size.ensures.size in
+    let none = sym c.in_ok-size.ensures.number in
+    let long = opened_lengths rows columns (length drawing) (length c.args.amounts.now) (length c.args.codes.now) none in
     let made = c.new-job.ensures in
     let rows_is = ap (λ s. s.rows) made.size ∙ told.0 in
     let columns-is = ap (λ s. s.columns) made.size ∙ told.1 in
