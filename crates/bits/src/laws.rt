@@ -2,8 +2,6 @@
 ghost use Rattle.bits.specs.Bits.{EveryBitIsKept};
 
 // Bit k of packed codes, read by division, is that of the code at k, and 0 where the codes have ended.
-pub fn every_bit_is_kept() -> u8
+pub fn every_bit_is_kept()
     ensures { EveryBitIsKept }
-{
-    0
-}
+{}

@@ -11,6 +11,6 @@ returns g c all =
     let from = c.args.first + 1 in
     let many = c.column_period.result - from in
     let told = cases_from_all _ _ _ (λ k. plan.rank c.args.row k ≢ c.args.rank) (λ k. plan.rank c.args.row k ≡ c.args.rank) c.all.ensures.ran
-        (YieldsList-from_range from c.column_period.result many refl refl) (λ x q k. search (rules, tests)) (λ x q k. search (rules, tests)) in
+    (YieldsList-from_range from c.column_period.result many refl refl) (λ x q k. search (rules, tests)) (λ x q k. search (rules, tests)) in
     lone plan (g.met.P.Plan.lawful job.plan) c.args.rank c.args.row job.size.columns c.args.first c.requires
     (λ k low high. all_in_range (λ n. plan.rank c.args.row n ≢ c.args.rank) _ c.all.result from many told all k (omega arith) (omega (arith, c.column_period.ensures)))
