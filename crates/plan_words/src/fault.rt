@@ -3,7 +3,7 @@ use refusal::Refusal;
 use std::alloc::{AllocError, AllocFailed};
 use std::fmt;
 
-#[derive(Drop)]
+#[derive(Debug, Drop)]
 pub enum Fault {
     // No word at all.
     NoPlan,

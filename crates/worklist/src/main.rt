@@ -10,9 +10,8 @@ mod reading;
 mod tests;
 mod working;
 
-use calls::Window;
 use fault::Fault;
-use list::{Worklist, part};
+use list::Worklist;
 use printing::print_outcome;
 use reading::{nothing_told, read_line};
 use std::alloc::Global;
@@ -30,9 +29,7 @@ struct Misread {
 // Reads all lines, up to the first that cannot be read.
 fn read_all(heap: Global, input: BufReader<Stdin>) -> Result<Worklist, Misread> {
     let mut list = nothing_told(heap);
-    let mut line = 0usize;
-    for text in input.lines(heap) {
-        line = line.saturating_add(1);
+    for (line, text) in (1usize..).zip(input.lines(heap)) {
         let Ok(text) = text else {
             return Err(Misread {
                 line,
@@ -46,27 +43,11 @@ fn read_all(heap: Global, input: BufReader<Stdin>) -> Result<Worklist, Misread> 
     Ok(list)
 }
 
-// The calls of one of the jobs.
-fn window_of(list: &Worklist, job: usize) -> Window {
-    let calls = list.requests.len();
-    let start = list.starts.get(job).copied().unwrap_or(calls);
-    let end = list
-        .starts
-        .get(job.saturating_add(1))
-        .copied()
-        .unwrap_or(calls);
-    Window {
-        start,
-        length: end.saturating_sub(start),
-    }
-}
-
 // Works each job in turn and prints it.
 fn work_all(rt: &HostRuntime, list: &Worklist) -> anyhow::Result<()> {
     let (rows, columns) = list.size.unwrap_or((0, 0));
-    for job in 0..list.starts.len() {
-        let requests = part(list.requests.as_slice(), window_of(list, job));
-        let outcome = work_job(rt.alloc(), list, rows, columns, requests)?;
+    for requests in &list.jobs {
+        let outcome = work_job(rt.alloc(), list, rows, columns, requests.as_slice())?;
         print_outcome(rt, rows, columns, &outcome)?;
     }
     Ok(())

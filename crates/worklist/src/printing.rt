@@ -1,240 +1,177 @@
 // The lines that are printed: what was asked, and what was answered.
-ghost use Rattle.std.specs.Prelude.{◌≡◌, IfSome};
-ghost use Rattle.refusal.specs.Numbers.{number_of};
-
-use crate::list::part;
 use crate::working::Outcome;
 use calls::{Answer, Call, Window};
-use job::Totals;
 use refusal::Refusal;
-use std::fmt::Write;
+use std::fmt;
 use tone::Grey;
 
-// The refusal that a number stands for, of those that a list of calls can give.
-fn refusal_of(number: u8) -> Option<Refusal>
-    ensures { IfSome result (λ refusal. number_of refusal ≡ number) }
-{
-    match number {
-        1 => Some(Refusal::SizeOutsideLimits),
-        2 => Some(Refusal::BandLength),
-        3 => Some(Refusal::OutsideDrawing),
-        4 => Some(Refusal::SquareFixed),
-        5 => Some(Refusal::LowerNeighbourOpen),
-        6 => Some(Refusal::OutputTooShort),
-        7 => Some(Refusal::RecordMalformed),
-        8 => Some(Refusal::LowerNeighbourMissing),
-        9 => Some(Refusal::WrongCode),
-        _ => None,
-    }
-}
-
-// A refusal by its number and its reason.
-fn say_refusal(line: &mut String, refusal: Refusal) -> anyhow::Result<()> {
-    let number = refusal.number();
-    let reason = refusal.reason();
-    write!(line, "refusal {number}: {reason}")?;
-    Ok(())
-}
-
-// The same, told by its number.
-fn say_number(line: &mut String, number: u8) -> anyhow::Result<()> {
-    match refusal_of(number) {
-        Some(refusal) => say_refusal(line, refusal),
-        None => {
-            write!(line, "refusal {number}")?;
-            Ok(())
-        }
-    }
-}
-
 // Bytes, two hexadecimal digits each.
-fn say_bytes(line: &mut String, bytes: &[u8]) -> anyhow::Result<()> {
-    for byte in bytes {
-        let b = *byte;
-        write!(line, "{b:02X}")?;
+#[derive(Clone, Copy)]
+struct Bytes<'a>(&'a [u8]);
+
+impl fmt::Display for Bytes<'_> {
+    fn fmt<W: fmt::Write>(&self, f: &mut fmt::Formatter<W>) -> fmt::Result {
+        for byte in self.0 {
+            write!(f, "{byte:02X}")?;
+        }
+        Ok(())
     }
-    Ok(())
 }
 
 // Places, with a space before each.
-fn say_places(line: &mut String, places: &[usize]) -> anyhow::Result<()> {
-    for place in places {
-        let p = *place;
-        write!(line, " {p}")?;
-    }
-    Ok(())
-}
+#[derive(Clone, Copy)]
+struct Places<'a>(&'a [usize]);
 
-// A record, with a space before it where it has a byte.
-fn say_record(line: &mut String, record: &[u8]) -> anyhow::Result<()> {
-    if !record.is_empty() {
-        line.push_str(" ")?;
+impl fmt::Display for Places<'_> {
+    fn fmt<W: fmt::Write>(&self, f: &mut fmt::Formatter<W>) -> fmt::Result {
+        for place in self.0 {
+            write!(f, " {place}")?;
+        }
+        Ok(())
     }
-    say_bytes(line, record)
 }
 
 // What was asked.
-fn say_call(line: &mut String, call: Call<'_>) -> anyhow::Result<()> {
-    match call {
-        Call::Fix(row, column) => write!(line, "fix {row} {column}")?,
-        Call::Follow(places) => {
-            line.push_str("follow")?;
-            say_places(line, places)?;
+#[derive(Clone, Copy)]
+struct Asked<'a>(Call<'a>);
+
+impl fmt::Display for Asked<'_> {
+    fn fmt<W: fmt::Write>(&self, f: &mut fmt::Formatter<W>) -> fmt::Result {
+        match self.0 {
+            Call::Fix(row, column) => write!(f, "fix {row} {column}"),
+            Call::Follow(places) => write!(f, "follow{}", Places(places)),
+            Call::Finish => write!(f, "finish"),
+            Call::Halt(_) => write!(f, "halt"),
+            Call::Resume(&[]) => write!(f, "resume"),
+            Call::Resume(record) => write!(f, "resume {}", Bytes(record)),
+            Call::Tally => write!(f, "tally"),
+            Call::Losses(_, _) => write!(f, "losses"),
         }
-        Call::Finish => line.push_str("finish")?,
-        Call::Halt(_) => line.push_str("halt")?,
-        Call::Resume(record) => {
-            line.push_str("resume")?;
-            say_record(line, record)?;
+    }
+}
+
+// A refusal told by its number.
+#[derive(Clone, Copy)]
+struct Numbered(u8);
+
+impl fmt::Display for Numbered {
+    fn fmt<W: fmt::Write>(&self, f: &mut fmt::Formatter<W>) -> fmt::Result {
+        let number = self.0;
+        match Refusal::try_from(number) {
+            Ok(refusal) => write!(f, "{refusal}"),
+            Err(_) => write!(f, "refusal {number}"),
         }
-        Call::Tally => line.push_str("tally")?,
-        Call::Losses(_, _) => line.push_str("losses")?,
     }
-    Ok(())
 }
 
-// How many places were accepted, and the refusal at which it ended.
-fn say_followed(line: &mut String, accepted: usize, number: u8) -> anyhow::Result<()> {
-    write!(line, "{accepted} accepted")?;
-    if number != 0 {
-        line.push_str(", then ")?;
-        say_number(line, number)?;
+// The losses of one call: how many there are, and then each.
+#[derive(Clone, Copy)]
+struct Listed<'a> {
+    places: &'a [usize],
+    errors: &'a [Grey],
+}
+
+impl fmt::Display for Listed<'_> {
+    fn fmt<W: fmt::Write>(&self, f: &mut fmt::Formatter<W>) -> fmt::Result {
+        write!(f, "{}", self.places.len())?;
+        for (i, (place, error)) in self.places.iter().zip(self.errors).enumerate() {
+            let before = if i == 0 { ": " } else { ", " };
+            write!(f, "{before}{} at place {place}", error.value)?;
+        }
+        Ok(())
     }
-    Ok(())
 }
 
-// The four totals.
-fn say_totals(line: &mut String, totals: Totals<Grey>) -> anyhow::Result<()> {
-    let drawing = totals.drawing.value;
-    let outputs = totals.outputs.value;
-    let losses = totals.losses.value;
-    let open = totals.amounts.value;
-    write!(
-        line,
-        "drawing {drawing}, outputs {outputs}, losses {losses}, open {open}"
-    )?;
-    Ok(())
+// What an accepted call answered, which for a number depends on what was asked.
+#[derive(Clone, Copy)]
+struct Answered<'a> {
+    outcome: &'a Outcome<'a>,
+    call: Call<'a>,
+    answer: Answer<Grey>,
 }
 
-// One loss, behind a colon where it is the first and behind a comma where not.
-fn say_loss(line: &mut String, first: bool, place: usize, error: Grey) -> anyhow::Result<()> {
-    if first {
-        line.push_str(": ")?;
-    } else {
-        line.push_str(", ")?;
-    }
-    let value = error.value;
-    write!(line, "{value} at place {place}")?;
-    Ok(())
-}
-
-// How many losses there are, and then each.
-fn say_losses(line: &mut String, places: &[usize], errors: &[Grey]) -> anyhow::Result<()> {
-    let count = places.len();
-    write!(line, "{count}")?;
-    let mut first = true;
-    for (place, error) in places.iter().zip(errors.iter()) {
-        say_loss(line, first, *place, *error)?;
-        first = false;
-    }
-    Ok(())
-}
-
-// The part of a window that was written.
-fn written(window: Window, count: usize) -> Window {
-    Window {
+// The first elements of a window into a list, cut to the list where it reaches past the end.
+fn written<X>(list: &[X], window: Window, count: usize) -> &[X] {
+    let part = Window {
         start: window.start,
         length: count,
+    };
+    let low = part.low(list.len());
+    let high = part.high(list.len());
+    &list[low..high]
+}
+
+impl fmt::Display for Answered<'_> {
+    fn fmt<W: fmt::Write>(&self, f: &mut fmt::Formatter<W>) -> fmt::Result {
+        match self.answer {
+            Answer::Code(code) => write!(f, "code {code}"),
+            Answer::Followed(accepted, 0) => write!(f, "{accepted} accepted"),
+            Answer::Followed(accepted, number) => write!(
+                f,
+                "{accepted} accepted, then {}",
+                Numbered(number)
+            ),
+            Answer::Count(count) => self.fmt_count(f, count),
+            Answer::Resumed => write!(f, "accepted"),
+            Answer::Totals(totals) => write!(
+                f,
+                "drawing {}, outputs {}, losses {}, open {}",
+                totals.drawing.value,
+                totals.outputs.value,
+                totals.losses.value,
+                totals.amounts.value
+            ),
+        }
     }
 }
 
-// A number, as the call means it.
-fn say_count(
-    line: &mut String,
-    outcome: &Outcome<'_>,
-    call: Call<'_>,
-    count: usize,
-) -> anyhow::Result<()> {
-    match call {
-        Call::Halt(window) => {
-            write!(line, "{count} bytes ")?;
-            say_bytes(line, part(outcome.bytes.as_slice(), written(window, count)))
-        }
-        Call::Losses(at, of) => say_losses(
-            line,
-            part(outcome.places.as_slice(), written(at, count)),
-            part(outcome.errors.as_slice(), written(of, count)),
-        ),
-        _ => {
-            write!(line, "{count} fixed")?;
-            Ok(())
+impl Answered<'_> {
+    // A number, as the call means it.
+    fn fmt_count<W: fmt::Write>(&self, f: &mut fmt::Formatter<W>, count: usize) -> fmt::Result {
+        match self.call {
+            Call::Halt(window) => write!(
+                f,
+                "{count} bytes {}",
+                Bytes(written(self.outcome.bytes.as_slice(), window, count))
+            ),
+            Call::Losses(at, of) => write!(
+                f,
+                "{}",
+                Listed {
+                    places: written(self.outcome.places.as_slice(), at, count),
+                    errors: written(self.outcome.errors.as_slice(), of, count),
+                }
+            ),
+            _ => write!(f, "{count} fixed"),
         }
     }
 }
 
-// What was answered.
-fn say_answer(
-    line: &mut String,
-    outcome: &Outcome<'_>,
-    call: Call<'_>,
-    answer: Answer<Grey>,
-) -> anyhow::Result<()> {
-    match answer {
-        Answer::Code(code) => {
-            write!(line, "code {code}")?;
-            Ok(())
-        }
-        Answer::Followed(accepted, number) => say_followed(line, accepted, number),
-        Answer::Count(count) => say_count(line, outcome, call, count),
-        Answer::Resumed => {
-            line.push_str("accepted")?;
-            Ok(())
-        }
-        Answer::Totals(totals) => say_totals(line, totals),
-        Answer::Refused(refusal) => say_refusal(line, refusal),
-    }
-}
-
-// Prints how the opening went.
-fn print_opening(rt: &HostRuntime, rows: usize, columns: usize, number: u8) -> anyhow::Result<()> {
-    let mut line = format!(in rt.alloc(); "open {rows} by {columns}: ")?;
-    if number == 0 {
-        line.push_str("accepted")?;
-    } else {
-        say_number(&mut line, number)?;
-    }
-    println!(rt; "{line}")?;
-    Ok(())
-}
-
-// Prints one call and its answer.
-fn print_call(
-    rt: &HostRuntime,
-    outcome: &Outcome<'_>,
-    call: Call<'_>,
-    answer: Answer<Grey>,
-) -> anyhow::Result<()> {
-    let mut line = String::new(rt.alloc());
-    say_call(&mut line, call)?;
-    line.push_str(": ")?;
-    say_answer(&mut line, outcome, call, answer)?;
-    println!(rt; "{line}")?;
-    Ok(())
-}
-
-// Prints a job: its opening, and then, where it was opened, each call.
+// Prints a job: its opening, and then, where it was opened, each call and its answer.
 pub fn print_outcome(
     rt: &HostRuntime,
     rows: usize,
     columns: usize,
     outcome: &Outcome<'_>,
 ) -> anyhow::Result<()> {
-    print_opening(rt, rows, columns, outcome.opened)?;
-    if outcome.opened != 0 {
+    if let Err(refusal) = outcome.opened {
+        println!(rt; "open {rows} by {columns}: {refusal}")?;
         return Ok(());
     }
+    println!(rt; "open {rows} by {columns}: accepted")?;
     for (call, answer) in outcome.calls.iter().zip(outcome.answers.iter()) {
-        print_call(rt, outcome, *call, *answer)?;
+        let asked = Asked(*call);
+        match *answer {
+            Ok(answer) => {
+                let answered = Answered {
+                    outcome: &*outcome,
+                    call: *call,
+                    answer,
+                };
+                println!(rt; "{asked}: {answered}")?;
+            }
+            Err(refusal) => println!(rt; "{asked}: {refusal}")?,
+        }
     }
     Ok(())
 }

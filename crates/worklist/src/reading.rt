@@ -1,8 +1,7 @@
 // Lines of text to a worklist.
 use crate::fault::Fault;
 use crate::list::{Request, Worklist};
-use crate::numbers::{number, read_bytes, signed, two_numbers};
-use calls::Window;
+use crate::numbers::{bytes, number, signed, two_numbers};
 use plan_words::parse_pile;
 use std::alloc::{AllocError, Global};
 use tone::Grey;
@@ -14,20 +13,15 @@ pub fn nothing_told(heap: Global) -> Worklist {
         threshold: None,
         size: None,
         tones: Vec::new(heap),
-        places: Vec::new(heap),
-        bytes: Vec::new(heap),
-        requests: Vec::new(heap),
-        starts: Vec::new(heap),
+        jobs: Vec::new(heap),
     }
 }
 
 // The words of a line.
 fn words_of(heap: Global, line: &str) -> Result<Vec<String>, AllocError> {
-    let mut words = Vec::new(heap);
-    for word in line.split_whitespace() {
-        words.push(String::from_str(heap, word)?)?;
-    }
-    Ok(words)
+    line.split_whitespace()
+        .map(|word| String::from_str(heap, word))
+        .try_collect(heap)
 }
 
 // No word may be left over.
@@ -41,7 +35,7 @@ fn no_words(words: &[String], form: &'static str) -> Result<(), Fault> {
 
 // What jobs are opened with is told before the first of them.
 fn in_time(list: &Worklist, name: &'static str) -> Result<(), Fault> {
-    if list.starts.is_empty() {
+    if list.jobs.is_empty() {
         Ok(())
     } else {
         Err(Fault::Late(name))
@@ -95,38 +89,31 @@ fn read_tones(heap: Global, list: &mut Worklist, words: &[String]) -> Result<(),
 }
 
 // The places of a Follow.
-fn read_places(heap: Global, list: &mut Worklist, words: &[String]) -> Result<Window, Fault> {
-    let start = list.places.len();
+fn read_places(heap: Global, words: &[String]) -> Result<Vec<usize>, Fault> {
+    let mut places = Vec::new(heap);
     for word in words {
-        list.places.push(number(heap, word.as_str())?)?;
+        places.push(number(heap, word.as_str())?)?;
     }
-    let length = words.len();
-    Ok(Window { start, length })
+    Ok(places)
 }
 
-// The record of a Resume.
-fn read_record(heap: Global, list: &mut Worklist, words: &[String]) -> Result<Window, Fault> {
-    let start = list.bytes.len();
+// The record of a Resume, in one word or in several.
+fn read_record(heap: Global, words: &[String]) -> Result<Vec<u8>, Fault> {
+    let mut record = Vec::new(heap);
     for word in words {
-        read_bytes(heap, word.as_str(), &mut list.bytes)?;
+        record.extend_from_slice(bytes(heap, word.as_str())?.as_slice())?;
     }
-    let length = list.bytes.len().saturating_sub(start);
-    Ok(Window { start, length })
+    Ok(record)
 }
 
 // The call that a line tells.
-fn parse_request(
-    heap: Global,
-    list: &mut Worklist,
-    name: &str,
-    words: &[String],
-) -> Result<Request, Fault> {
+fn parse_request(heap: Global, name: &str, words: &[String]) -> Result<Request, Fault> {
     match name {
         "fix" => {
             let (row, column) = two_numbers(heap, words, "fix ROW COLUMN")?;
             Ok(Request::Fix(row, column))
         }
-        "follow" => Ok(Request::Follow(read_places(heap, list, words)?)),
+        "follow" => Ok(Request::Follow(read_places(heap, words)?)),
         "finish" => {
             no_words(words, "finish")?;
             Ok(Request::Finish)
@@ -135,7 +122,7 @@ fn parse_request(
             no_words(words, "halt")?;
             Ok(Request::Halt)
         }
-        "resume" => Ok(Request::Resume(read_record(heap, list, words)?)),
+        "resume" => Ok(Request::Resume(read_record(heap, words)?)),
         "tally" => {
             no_words(words, "tally")?;
             Ok(Request::Tally)
@@ -149,12 +136,11 @@ fn parse_request(
 }
 
 // Begins a job.
-fn begin(list: &mut Worklist) -> Result<(), Fault> {
+fn begin(heap: Global, list: &mut Worklist) -> Result<(), Fault> {
     if list.size.is_none() {
         return Err(Fault::NoSize);
     }
-    let start = list.requests.len();
-    list.starts.push(start)?;
+    list.jobs.push(Vec::new(heap))?;
     Ok(())
 }
 
@@ -165,11 +151,13 @@ fn read_request(
     name: &str,
     words: &[String],
 ) -> Result<(), Fault> {
-    let request = parse_request(heap, list, name, words)?;
-    if list.starts.is_empty() {
-        begin(list)?;
+    let request = parse_request(heap, name, words)?;
+    if list.jobs.is_empty() {
+        begin(heap, list)?;
     }
-    list.requests.push(request)?;
+    if let Some(requests) = list.jobs.last_mut() {
+        requests.push(request)?;
+    }
     Ok(())
 }
 
@@ -189,7 +177,7 @@ pub fn read_line(heap: Global, list: &mut Worklist, line: &str) -> Result<(), Fa
         "tones" => read_tones(heap, list, words),
         "open" => {
             no_words(words, "open")?;
-            begin(list)
+            begin(heap, list)
         }
         other => read_request(heap, list, other, words),
     }

@@ -1,9 +1,10 @@
 // The work on one job: its calls, and memory of ample size to lend to them.
-use crate::list::{Request, Worklist, part};
+use crate::list::{Request, Worklist};
 use calls::{Answer, Call, Window, work};
 use pile::{Layer, Pile, piled};
 use plan::{Either, Knuth};
 use quantiser::Threshold;
+use refusal::Refusal;
 use std::alloc::{AllocError, Global};
 use tone::Grey;
 
@@ -14,9 +15,9 @@ const THRESHOLD: i32 = 128;
 #[derive(Drop)]
 pub struct Outcome<'a> {
     pub calls: Vec<Call<'a>>,
-    // 0, or the number of the refusal to open the job.
-    pub opened: u8,
-    pub answers: Vec<Answer<Grey>>,
+    // Whether the job was opened.
+    pub opened: Result<(), Refusal>,
+    pub answers: Vec<Result<Answer<Grey>, Refusal>>,
     // The records that were written.
     pub bytes: Vec<u8>,
     // The places of the losses that were listed, and their errors.
@@ -33,28 +34,15 @@ struct Lent {
 
 // The plan that was told, or Knuth's.
 fn plan_of(list: &Worklist) -> Pile {
-    match list.plan {
-        Some(pile) => pile,
-        None => piled(Either::Left(Knuth), [Layer::Plain; 5]),
-    }
+    list.plan
+        .unwrap_or_else(|| piled(Either::Left(Knuth), [Layer::Plain; 5]))
 }
 
 // The threshold that was told, or the usual one.
 fn threshold_of(list: &Worklist) -> Threshold {
-    let least = match list.threshold {
-        Some(least) => least,
-        None => THRESHOLD,
-    };
-    Threshold { least }
-}
-
-// A list of one element throughout.
-fn filled<X: Copy>(heap: Global, x: X, count: usize) -> Result<Vec<X>, AllocError> {
-    let mut list = Vec::new(heap);
-    for _ in 0..count {
-        list.push(x)?;
+    Threshold {
+        least: list.threshold.unwrap_or(THRESHOLD),
     }
-    Ok(list)
 }
 
 // Memory for one more record: four bytes of size, a bit and a code for each square.
@@ -76,14 +64,13 @@ fn lend_places(lent: &mut Lent, squares: usize) -> Window {
 }
 
 // The call of a request, with memory of its own to write into.
-fn call_of<'a>(list: &'a Worklist, request: Request, lent: &mut Lent) -> Call<'a> {
-    let squares = list.tones.len();
+fn call_of<'a>(request: &'a Request, squares: usize, lent: &mut Lent) -> Call<'a> {
     match request {
-        Request::Fix(row, column) => Call::Fix(row, column),
-        Request::Follow(places) => Call::Follow(part(list.places.as_slice(), places)),
+        Request::Fix(row, column) => Call::Fix(*row, *column),
+        Request::Follow(places) => Call::Follow(places.as_slice()),
         Request::Finish => Call::Finish,
         Request::Halt => Call::Halt(lend_bytes(lent, squares)),
-        Request::Resume(record) => Call::Resume(part(list.bytes.as_slice(), record)),
+        Request::Resume(record) => Call::Resume(record.as_slice()),
         Request::Tally => Call::Tally,
         Request::Losses => {
             let window = lend_places(lent, squares);
@@ -95,13 +82,13 @@ fn call_of<'a>(list: &'a Worklist, request: Request, lent: &mut Lent) -> Call<'a
 // The calls of the requests.
 fn calls_of<'a>(
     heap: Global,
-    list: &'a Worklist,
-    requests: &[Request],
+    requests: &'a [Request],
+    squares: usize,
     lent: &mut Lent,
 ) -> Result<Vec<Call<'a>>, AllocError> {
     let mut calls = Vec::new(heap);
     for request in requests {
-        calls.push(call_of(list, *request, lent))?;
+        calls.push(call_of(request, squares, lent))?;
     }
     Ok(calls)
 }
@@ -109,23 +96,24 @@ fn calls_of<'a>(
 // Opens a job and works the requests on it.
 pub fn work_job<'a>(
     heap: Global,
-    list: &'a Worklist,
+    list: &Worklist,
     rows: usize,
     columns: usize,
-    requests: &[Request],
+    requests: &'a [Request],
 ) -> Result<Outcome<'a>, AllocError> {
+    let squares = list.tones.len();
     let mut lent = Lent {
         bytes: 0,
         places: 0,
     };
-    let calls = calls_of(heap, list, requests, &mut lent)?;
+    let calls = calls_of(heap, requests, squares, &mut lent)?;
     let none = Grey { value: 0 };
-    let mut amounts = filled(heap, none, list.tones.len())?;
-    let mut codes = filled(heap, 0, list.tones.len())?;
-    let mut bytes = filled(heap, 0, lent.bytes)?;
-    let mut places = filled(heap, 0, lent.places)?;
-    let mut errors = filled(heap, none, lent.places)?;
-    let mut answers = filled(heap, Answer::Resumed, calls.len())?;
+    let mut amounts = vec![in heap; none; squares]?;
+    let mut codes = vec![in heap; 0u8; squares]?;
+    let mut bytes = vec![in heap; 0u8; lent.bytes]?;
+    let mut places = vec![in heap; 0usize; lent.places]?;
+    let mut errors = vec![in heap; none; lent.places]?;
+    let mut answers = vec![in heap; Ok(Answer::Resumed); calls.len()]?;
     let opened = work(
         rows,
         columns,
