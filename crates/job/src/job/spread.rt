@@ -60,22 +60,14 @@ impl<P: Plan, Q: Quantiser> Job<P, Q> {
     {
         let corner = error.share(1, pattern.weights);
         let side = error.share(2, pattern.weights);
+        let columns = self.size.columns;
+        let last = pattern.last;
         let mut given = Q::Tone::zero();
         for direction in Direction::ALL {
             if let Kind::Higher = pattern.kind(direction) {
-                let part = part_for(
-                    direction,
-                    pattern.last,
-                    error.difference(given),
-                    side,
-                    corner,
-                );
+                let part = part_for(direction, last, error.difference(given), side, corner);
                 given = given.sum(part);
-                add(
-                    amounts,
-                    place_beside(place, self.size.columns, direction),
-                    part,
-                );
+                add(amounts, place_beside(place, columns, direction), part);
             }
         }
     }
