@@ -1,6 +1,6 @@
 -- The parts of an error, one direction after the other: the steps of the loop that hands them out.
-use Rattle.std.proofs.Common.{◌≡◌, ℕ, suc, ◌+◌, ◌-◌, ◌%◌, ◌<◌, ◌≤◌, Bool, true, false, cond, eqb, List, get_or, set, is_some, Some, None, sym, refl, ap, ◌∙◌, ap₂, inl, inr, add-one, arith}
-use Rattle.std.proofs.lemmas.Bool.{cases_eq, cases_Bool, cond-true, cond-false, eq-eqb, ne_eqb, both_ways}
+use Rattle.std.proofs.Common.{◌≡◌, ℕ, suc, ◌+◌, ◌-◌, ◌%◌, ◌<◌, ◌≤◌, Bool, true, false, cond, eqb, List, get_or, set, is_some, Some, None, Option, sym, refl, ap, ◌∙◌, ap₂, inl, inr, add-one, arith}
+use Rattle.std.proofs.lemmas.Bool.{cases_eq, cases_Bool, cond-true, cond-false, eq-eqb, ne_eqb, both_ways, false≢true}
 use Rattle.tone.specs.Algebra.{Algebra, Lawful}
 use Rattle.tone.specs.Sums.{total}
 use Rattle.tone.proofs.Totals.{total_more}
@@ -21,6 +21,22 @@ module _ (squares : Neighbourhood) (s : ℕ) where
       | inr ne ↦ up_to_last n (omega arith) d (omega arith) is
     ])
   ]
+
+  -- where there is no last, there is none
+  pub none_higher : (n : ℕ) → n ≤ 8 → last squares s n ≡ 8 → (d : ℕ) → d < n → higher squares s d ≡ None
+  unfolding last
+  none_higher ℕ.zero h is d l = absurd (omega arith)
+  none_higher (suc n) h is d l = elim (cases_Bool (is_some (higher squares s n))) [
+    | inl e ↦ absurd (let m : n ≡ 8 = sym (cond-true (is_some (higher squares s n)) n (last squares s n) e) ∙ is in omega arith)
+    | inr e ↦ elim (cases_eq d n) [
+      | inl q ↦ ap (higher squares s) q ∙ lacks (higher squares s n) e
+      | inr ne ↦ none_higher n (omega arith) (sym (cond-false (is_some (higher squares s n)) n (last squares s n) e) ∙ is) d (omega arith)
+    ]
+  ]
+    where
+      lacks : (o : Option ℕ) → is_some o ≡ false → o ≡ None
+      lacks None f = refl
+      lacks (Some t) f = absurd (false≢true (sym f))
 
 module _ {T : Type 0} (tone : Algebra T) (lawful : Lawful tone) (squares : Neighbourhood) (s : ℕ) (e : T) where
   -- what the others receive, up to a direction: one that has no higher neighbour or is the last adds nothing
@@ -88,6 +104,11 @@ module _ {T : Type 0} (tone : Algebra T) (squares : Neighbourhood) (s : ℕ) (p 
       → spread tone squares s p (d + 1) xs ≡ set (spread tone squares s p d xs) t (tone.sum (get_or (spread tone squares s p d xs) t tone.zero) (p d))
   unfolding spread
   spread-higher d t h = rw add-one (ap (λ o. put tone o (p d) (spread tone squares s p d xs)) h)
+
+  -- nothing is sent where there is no higher neighbour
+  pub spread_nowhere : (n : ℕ) → ((d : ℕ) → d < n → higher squares s d ≡ None) → spread tone squares s p n xs ≡ xs
+  spread_nowhere ℕ.zero none = spread_none
+  spread_nowhere (suc n) none = ap (λ m. spread tone squares s p m xs) (omega arith) ∙ spread_other n (none n (omega arith)) ∙ spread_nowhere n (λ d l. none d (omega arith))
 
 -- one turn of the loop that hands the parts out
 module _ {T : Type 0} (tone : Algebra T) (lawful : Lawful tone) (squares : Neighbourhood) (s : ℕ) (e : T) (xs : List T) where

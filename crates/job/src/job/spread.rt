@@ -4,7 +4,7 @@ ghost use Rattle.grid.specs.Directions.{number_of};
 ghost use Rattle.diffusion.specs.Bands.{spread};
 ghost use Rattle.diffusion.specs.Draft.{sends};
 ghost use Rattle.job.specs.Meaning.{squares_of};
-ghost use Rattle.job.specs.Patterns.{last_number, PatternOf};
+ghost use Rattle.job.specs.Patterns.{PatternOf};
 
 use crate::beside::place_beside;
 use crate::job::Job;
@@ -19,16 +19,10 @@ use tone::Tone;
 pub const OPEN: u8 = 255;
 
 // The part for a direction with a higher neighbour: what is left for the last, and else the share of a side or of a corner.
-fn part_for<T: Tone>(
-    direction: Direction,
-    last: Option<Direction>,
-    left: T,
-    side: T,
-    corner: T,
-) -> T
-    ensures { result ≡ (if nat_eq (number_of direction) (last_number last) then left else (if nat_eq (number_of direction % 2) 0 then side else corner)) }
+fn part_for<T: Tone>(direction: Direction, last: Direction, left: T, side: T, corner: T) -> T
+    ensures { result ≡ (if nat_eq (number_of direction) (number_of last) then left else (if nat_eq (number_of direction % 2) 0 then side else corner)) }
 {
-    if Some(direction) == last {
+    if direction == last {
         left
     } else if direction.weight() == 2 {
         side
@@ -46,7 +40,7 @@ fn add<T: Tone>(amounts: &mut [T], place: usize, part: T)
 }
 
 impl<P: Plan, Q: Quantiser> Job<P, Q> {
-    // Adds the parts of an error to the higher neighbours: the last receives what the others leave.
+    // Adds the parts of an error to the higher neighbours: the last receives what the others leave. A baron has none.
     pub(crate) fn spread(
         &self,
         amounts: &mut [Q::Tone],
@@ -58,16 +52,21 @@ impl<P: Plan, Q: Quantiser> Job<P, Q> {
         requires pattern { PatternOf (squares_of P.Plan.meaning self.now) place pattern.now }
         ensures { amounts.new ≡ spread Q.Tone.Tone.algebra (squares_of P.Plan.meaning self.now) place (sends Q.Tone.Tone.algebra (squares_of P.Plan.meaning self.now) place error) 8 amounts.old }
     {
+        let Some(last) = pattern.last else {
+            return;
+        };
         let corner = error.share(1, pattern.weights);
         let side = error.share(2, pattern.weights);
-        let columns = self.size.columns;
-        let last = pattern.last;
         let mut given = Q::Tone::zero();
         for direction in Direction::ALL {
             if let Kind::Higher = pattern.kind(direction) {
                 let part = part_for(direction, last, error.difference(given), side, corner);
                 given = given.sum(part);
-                add(amounts, place_beside(place, columns, direction), part);
+                add(
+                    amounts,
+                    place_beside(place, self.size.columns, direction),
+                    part,
+                );
             }
         }
     }

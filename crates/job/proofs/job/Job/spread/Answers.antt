@@ -4,14 +4,22 @@ use Rattle.grid.specs.Directions.{number_of}
 use Rattle.diffusion.specs.Bands.{spread}
 use Rattle.tone.proofs.Totals.{total-none}
 use Rattle.diffusion.specs.Draft.{sends, shared_before}
+use Rattle.diffusion.specs.Neighbourhoods.{last}
 use Rattle.job.specs.Meaning.{squares_of}
 use Rattle.job.specs.Patterns.{beside, last_number}
 use Rattle.job.specs.declared.kind.Kind.TheVariants.{Neither}
-use Rattle.job.proofs.Parting.{spread_none, Handed, worked_part, hand_higher, hand_other}
+use Rattle.job.proofs.Parting.{spread_none, spread_nowhere, none_higher, Handed, worked_part, hand_higher, hand_other}
 use Rattle.job.proofs.Eight.{nth, numbered}
 use Rattle.job.proofs.Around.{higher_some, higher_not, higher-inside}
 use Rattle.job.proofs.job.Job.spread.Goals as goal
-use Rattle.job.proofs.job.Job.spread.Goals.{in-Higher, in_default}
+use Rattle.job.proofs.job.Job.spread.Goals.{in-Higher, in_default-kind}
+
+pub returns-in_default : goal.returns-in_default
+returns-in_default g c =
+    let tone = g.Q.Tone.Tone.algebra in
+    let squares = squares_of g.P.Plan.meaning c.args.self.now in
+    let none = none_higher squares c.args.place 8 (omega arith) (sym c.requires.pattern.last ∙ ap last_number c.in_default.is) in
+    sym (spread_nowhere tone squares c.args.place (sends tone squares c.args.place c.args.error) c.args.amounts.now 8 none)
 
 pub loop-direction-init : goal.loop-direction-init
 loop-direction-init g c =
@@ -57,20 +65,21 @@ loop-direction-preserved g c =
     elim c.match-kind.branch [
       | in-Higher w ↦
           let kind-is = sym read ∙ w.in-Higher.is in
+          let last_is : number_of c.in-Some.last ≡ last squares s 8 = ap last_number (sym c.in-Some.is) ∙ is_pattern.last in
           let left_is = w.difference.ensures in
           let side-is = c.share-side.ensures ∙ ap (tone.share e 2) is_pattern.weights in
           let corner-is = c.share-corner.ensures ∙ ap (tone.share e 1) is_pattern.weights in
           let part-is : w.part_for-part.result ≡ worked_part tone laws squares s e xs d c.loop-direction.given
-          = w.part_for-part.ensures ∙ (λ i. cond (eqb (is i) (is_pattern.last i)) (left_is i) (cond (eqb (is i % 2) 0) (side-is i) (corner-is i))) in
+          = w.part_for-part.ensures ∙ (λ i. cond (eqb (is i) (last_is i)) (left_is i) (cond (eqb (is i % 2) 0) (side-is i) (corner-is i))) in
           let beside-is : w.place_beside.result ≡ beside j.size.columns s d = w.place_beside.ensures ∙ ap (beside j.size.columns s) is in
           back c.match-kind.given c.match-kind.amounts
           (hand_higher tone laws squares s e xs d (beside j.size.columns s d) c.loop-direction.given w.part_for-part.result c.match-kind.given c.loop-direction.amounts c.match-kind.amounts below
           (higher_some j.size.rows j.size.columns plan law s is_pattern.inside ks is_pattern.kinds d below kind-is)
           inv part-is (w.given-is ∙ w.sum-given.ensures)
           (w.amounts-is ∙ w.add.ensures ∙ ap (λ t. set c.loop-direction.amounts t (tone.sum (get_or c.loop-direction.amounts t tone.zero) w.part_for-part.result)) beside-is))
-      | in_default w ↦
+      | in_default-kind w ↦
           back c.match-kind.given c.match-kind.amounts
           (hand_other tone laws squares s e xs d c.match-kind.given c.match-kind.amounts
-          (higher_not j.size.rows j.size.columns plan law s is_pattern.inside ks is_pattern.kinds d below (λ k. w.in_default.not-Higher (read ∙ k)))
+          (higher_not j.size.rows j.size.columns plan law s is_pattern.inside ks is_pattern.kinds d below (λ k. w.in_default-kind.not-Higher (read ∙ k)))
           (λ h. w.given-is ∙ inv.0 h, w.amounts-is ∙ inv.1))
     ]
