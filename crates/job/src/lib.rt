@@ -2,6 +2,7 @@
 #![tactic(auto)]
 
 mod beside;
+mod code;
 mod form;
 mod job;
 mod kind;

@@ -3,6 +3,7 @@ ghost use Rattle.std.specs.Prelude.{◌≡◌, ◌+◌, ◌*◌, ◌<◌, not, �
 ghost use Rattle.diffusion.specs.Neighbourhoods.{baron};
 ghost use Rattle.job.specs.Meaning.{squares_of};
 
+use crate::code::OPEN;
 use crate::job::Job;
 use plan::Plan;
 use quantiser::Quantiser;
@@ -23,6 +24,6 @@ impl<P: Plan, Q: Quantiser> Job<P, Q> {
         requires column { column < self.now.size.columns }
         ensures { result ≡ (not (code == 255) && baron (squares_of P.Plan.meaning self.now) (row * self.now.size.columns + column)) }
     {
-        code != 255 && self.is_baron(row, column)
+        code != OPEN && self.is_baron(row, column)
     }
 }

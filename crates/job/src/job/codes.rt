@@ -5,8 +5,8 @@ ghost use Rattle.model.specs.Records.{stand_below};
 ghost use Rattle.model.specs.Replays.{codes_in};
 ghost use Rattle.job.specs.Coded.{EachCoded};
 
+use crate::code::OPEN;
 use crate::form::is_standing;
-use crate::job::spread::OPEN;
 
 // Writes a record's codes, and 255 for each square that does not stand; false at the first standing square with the code 255, which is no
 // square's code.

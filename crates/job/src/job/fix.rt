@@ -8,8 +8,8 @@ ghost use Rattle.job.specs.Patterns.{PatternOf};
 ghost use Rattle.job.specs.Progress.{progress, taken};
 ghost use Rattle.job.specs.Single.{attempt};
 
+use crate::code::OPEN;
 use crate::job::Job;
-use crate::job::spread::OPEN;
 use crate::pattern::Pattern;
 use plan::Plan;
 use quantiser::Quantiser;

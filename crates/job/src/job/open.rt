@@ -3,8 +3,8 @@ ghost use Rattle.std.specs.Prelude.{◌≡◌, length};
 ghost use Rattle.model.specs.Openings.{open_refusal, unless, opened_on};
 ghost use Rattle.job.specs.Meaning.{band};
 
+use crate::code::OPEN;
 use crate::job::Job;
-use crate::job::spread::OPEN;
 use grid::Size;
 use plan::Plan;
 use quantiser::Quantiser;

@@ -5,8 +5,8 @@ ghost use Rattle.job.specs.Meaning.{squares_of, setting_by};
 ghost use Rattle.job.specs.Patterns.{PatternOf};
 ghost use Rattle.job.specs.Worked.{kept_if, RowWorked};
 
+use crate::code::OPEN;
 use crate::job::Job;
-use crate::job::spread::OPEN;
 use crate::pattern::Pattern;
 use plan::Plan;
 use quantiser::Quantiser;

@@ -8,10 +8,10 @@ ghost use Rattle.job.specs.Answers.{resumed};
 ghost use Rattle.job.specs.Meaning.{meant, setting_by, band};
 ghost use Rattle.job.specs.Worked.{Reworked};
 
+use crate::code::OPEN;
 use crate::form::is_well_formed;
 use crate::job::Job;
 use crate::job::codes::write_codes;
-use crate::job::spread::OPEN;
 use plan::Plan;
 use quantiser::Quantiser;
 use refusal::Refusal;

@@ -6,6 +6,7 @@ ghost use Rattle.job.specs.Answers.{totalled};
 ghost use Rattle.job.specs.Meaning.{squares_of, meant, band};
 ghost use Rattle.job.specs.Shown.{output_at, loss_at, open_at};
 
+use crate::code::OPEN;
 use crate::job::Job;
 use crate::totals::Totals;
 use plan::Plan;
@@ -20,7 +21,7 @@ fn sum_open<T: Tone>(amounts: &[T], codes: &[u8]) -> T
 {
     let mut sum = T::zero();
     for (place, amount) in amounts.iter().enumerate() {
-        if codes[place] == 255 {
+        if codes[place] == OPEN {
             sum = sum.sum(*amount);
         }
     }
@@ -34,7 +35,7 @@ impl<P: Plan, Q: Quantiser> Job<P, Q> {
     {
         let mut sum = Q::Tone::zero();
         for code in codes {
-            if *code != 255 {
+            if *code != OPEN {
                 sum = sum.sum(self.quantiser.output(*code));
             }
         }
