@@ -7,8 +7,8 @@ mod form;
 mod job;
 mod kind;
 mod pattern;
-mod record;
 mod totals;
+mod writing;
 
 pub use job::Job;
 pub use totals::Totals;

@@ -6,7 +6,7 @@ ghost use Rattle.job.specs.Answers.{counted};
 ghost use Rattle.job.specs.Meaning.{meant, band};
 
 use crate::job::Job;
-use crate::record::{count_fixed, put_codes, put_size};
+use crate::writing::{count_fixed, put_codes, put_size};
 use bits::{Fixed, pack_row};
 use plan::Plan;
 use quantiser::Quantiser;
