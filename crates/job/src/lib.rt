@@ -2,11 +2,13 @@
 #![tactic(auto)]
 
 mod beside;
+mod bit_map;
 mod code;
-mod form;
 mod job;
 mod kind;
 mod pattern;
+mod record;
+mod size_bytes;
 mod totals;
 mod writing;
 

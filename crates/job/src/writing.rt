@@ -1,10 +1,8 @@
-// The parts of a halted job's record, each written to a lent part of an output.
+// The codes that a record keeps: those of the fixed squares, counted and written.
 ghost use Rattle.std.specs.Prelude.{◌≡◌, ◌≤◌, length, filter};
 ghost use Rattle.bits.specs.Bits.{fixed};
-ghost use Rattle.model.specs.Records.{size_bytes};
 
 use crate::code::OPEN;
-use grid::Size;
 
 // How many squares are fixed, so how many codes a record has.
 pub fn count_fixed(codes: &[u8]) -> usize
@@ -12,15 +10,6 @@ pub fn count_fixed(codes: &[u8]) -> usize
     ensures bound { result ≤ length codes.now }
 {
     codes.iter().filter(|code| **code != OPEN).count()
-}
-
-// Writes rows and columns, two bytes each, high byte first.
-pub fn put_size(size: &Size, out: &mut [u8])
-    requires { length out.old ≡ 4 }
-    ensures { out.new ≡ size_bytes size.now.rows size.now.columns }
-{
-    out[..2].copy_from_slice(&(size.rows as u16).to_be_bytes());
-    out[2..].copy_from_slice(&(size.columns as u16).to_be_bytes());
 }
 
 // Writes the codes of the fixed squares.

@@ -1,5 +1,5 @@
 // The squares that stand in a code band, worked again from the drawing: rank by rank, and each rank in reading order.
-ghost use Rattle.std.specs.Prelude.{◌≡◌, suc, ◌+◌, ◌*◌, ◌<◌, true, length};
+ghost use Rattle.std.specs.Prelude.{◌≡◌, suc, ◌+◌, ◌*◌, ◌<◌, length, Some};
 ghost use Rattle.model.specs.Replays.{replay_at, replay_visit, replay_sweep, replay};
 ghost use Rattle.job.specs.Meaning.{squares_of, setting_by};
 ghost use Rattle.job.specs.Patterns.{PatternOf};
@@ -10,32 +10,27 @@ use crate::job::Job;
 use crate::pattern::Pattern;
 use plan::Plan;
 use quantiser::Quantiser;
-use tone::Tone;
+use refusal::Refusal;
 
 impl<P: Plan, Q: Quantiser> Job<P, Q> {
-    // Works the square at a place, whose pattern is told; false, and nothing changed, where another code is chosen than the one written.
+    // Works the square at a place, whose pattern is told; 9 where another code is chosen than the one written.
     fn replay_place(
         &self,
         amounts: &mut [Q::Tone],
         codes: &[u8],
         place: usize,
         pattern: &Pattern,
-    ) -> bool
+    ) -> Result<(), Refusal>
         requires inside { place < self.now.size.rows * self.now.size.columns }
         requires amounts { length amounts.old ≡ self.now.size.rows * self.now.size.columns }
         requires codes { length codes.now ≡ self.now.size.rows * self.now.size.columns }
         requires pattern { PatternOf (squares_of P.Plan.meaning self.now) place pattern.now.kinds pattern.now.weights pattern.now.last }
         ensures { kept_if result amounts.new ≡ replay_at (setting_by Q.Tone.Tone.algebra P.Plan.meaning Q.Quantiser.tables self.now) codes.now place amounts.old }
     {
-        let amount = amounts[place];
-        let code = self.quantiser.choose(amount);
-        if code != codes[place] {
-            return false;
+        if self.quantise(amounts, place, pattern) != codes[place] {
+            return Err(Refusal::WrongCode);
         }
-        let error = amount.difference(self.quantiser.output(code));
-        amounts[place] = error;
-        self.spread(amounts, place, pattern, error);
-        true
+        Ok(())
     }
 
     // Works the square at a row and a column if it stands and has the rank whose turn it is.
@@ -46,64 +41,64 @@ impl<P: Plan, Q: Quantiser> Job<P, Q> {
         row: usize,
         column: usize,
         rank: u8,
-    ) -> bool
+    ) -> Result<(), Refusal>
         requires row { row < self.now.size.rows }
         requires column { column < self.now.size.columns }
         requires amounts { length amounts.old ≡ self.now.size.rows * self.now.size.columns }
         requires codes { length codes.now ≡ self.now.size.rows * self.now.size.columns }
-        ensures { kept_if result amounts.new ≡ replay_visit (setting_by Q.Tone.Tone.algebra P.Plan.meaning Q.Quantiser.tables self.now) codes.now rank (row * self.now.size.columns + column) (kept_if true amounts.old) }
+        ensures { kept_if result amounts.new ≡ replay_visit (setting_by Q.Tone.Tone.algebra P.Plan.meaning Q.Quantiser.tables self.now) codes.now rank (row * self.now.size.columns + column) (Some amounts.old) }
     {
         let place = row * self.size.columns + column;
         if codes[place] == OPEN {
-            return true;
+            return Ok(());
         }
         if self.plan.rank(row, column) != rank {
-            return true;
+            return Ok(());
         }
         let pattern = self.pattern(row, column);
         self.replay_place(amounts, codes, place, &pattern)
     }
 
     // Works the squares of a rank in one row.
-    fn replay_row(&self, amounts: &mut [Q::Tone], codes: &[u8], row: usize, rank: u8) -> bool
+    fn replay_row(
+        &self,
+        amounts: &mut [Q::Tone],
+        codes: &[u8],
+        row: usize,
+        rank: u8,
+    ) -> Result<(), Refusal>
         requires row { row < self.now.size.rows }
         requires amounts { length amounts.old ≡ self.now.size.rows * self.now.size.columns }
         requires codes { length codes.now ≡ self.now.size.rows * self.now.size.columns }
         ensures { RowWorked (setting_by Q.Tone.Tone.algebra P.Plan.meaning Q.Quantiser.tables self.now) codes.now rank (row * self.now.size.columns) ((row + 1) * self.now.size.columns) amounts.old (kept_if result amounts.new) }
     {
         for column in 0..self.size.columns {
-            if !self.replay_square(amounts, codes, row, column, rank) {
-                return false;
-            }
+            self.replay_square(amounts, codes, row, column, rank)?;
         }
-        true
+        Ok(())
     }
 
     // Works the squares of a rank.
-    fn replay_rank(&self, amounts: &mut [Q::Tone], codes: &[u8], rank: u8) -> bool
+    fn replay_rank(&self, amounts: &mut [Q::Tone], codes: &[u8], rank: u8) -> Result<(), Refusal>
         requires amounts { length amounts.old ≡ self.now.size.rows * self.now.size.columns }
         requires codes { length codes.now ≡ self.now.size.rows * self.now.size.columns }
-        ensures { kept_if result amounts.new ≡ replay_sweep (setting_by Q.Tone.Tone.algebra P.Plan.meaning Q.Quantiser.tables self.now) codes.now rank (kept_if true amounts.old) (self.now.size.rows * self.now.size.columns) }
+        ensures { kept_if result amounts.new ≡ replay_sweep (setting_by Q.Tone.Tone.algebra P.Plan.meaning Q.Quantiser.tables self.now) codes.now rank (Some amounts.old) (self.now.size.rows * self.now.size.columns) }
     {
         for row in 0..self.size.rows {
-            if !self.replay_row(amounts, codes, row, rank) {
-                return false;
-            }
+            self.replay_row(amounts, codes, row, rank)?;
         }
-        true
+        Ok(())
     }
 
-    // Works all squares that stand; false at the first code that is not the one written, and the amounts are then of no use.
-    pub(crate) fn replay(&self, amounts: &mut [Q::Tone], codes: &[u8]) -> bool
+    // Works all squares that stand; 9 at the first code that is not the one written, and the amounts are then of no use.
+    pub(crate) fn replay(&self, amounts: &mut [Q::Tone], codes: &[u8]) -> Result<(), Refusal>
         requires amounts { length amounts.old ≡ self.now.size.rows * self.now.size.columns }
         requires codes { length codes.now ≡ self.now.size.rows * self.now.size.columns }
-        ensures { kept_if result amounts.new ≡ replay (setting_by Q.Tone.Tone.algebra P.Plan.meaning Q.Quantiser.tables self.now) codes.now (kept_if true amounts.old) (suc (P.Plan.meaning self.now.plan).top) }
+        ensures { kept_if result amounts.new ≡ replay (setting_by Q.Tone.Tone.algebra P.Plan.meaning Q.Quantiser.tables self.now) codes.now (Some amounts.old) (suc (P.Plan.meaning self.now.plan).top) }
     {
         for rank in 0..=self.plan.top() {
-            if !self.replay_rank(amounts, codes, rank) {
-                return false;
-            }
+            self.replay_rank(amounts, codes, rank)?;
         }
-        true
+        Ok(())
     }
 }

@@ -1,14 +1,12 @@
 use Rattle.std.proofs.Common.{sym}
-use Rattle.model.specs.Records.{stands}
-use Rattle.job.specs.Meaning.{squares_of}
 use Rattle.job.proofs.Readies.{ready_none, ready_more, ready_fails}
 use Rattle.job.proofs.job.Job.all_lower_stand.Goals as goal
 
 pub loop-d-init : goal.loop-d-init
-loop-d-init g c = ready_none (squares_of g.P.Plan.meaning c.args.self.now) (stands c.args.saved.now) c.args.place
+loop-d-init g c = ready_none _ _ _
 
 pub loop-d-preserved : goal.loop-d-preserved
-loop-d-preserved g c = ready_more (squares_of g.P.Plan.meaning c.args.self.now) (stands c.args.saved.now) c.args.place c.loop-d.d (sym c.if-not-lower_stands.ensures) c.loop-d.invariant
+loop-d-preserved g c = ready_more _ _ _ _ (sym c.if-not-lower_stands.ensures) c.loop-d.invariant
 
 pub returns-then-not-lower_stands : goal.returns-then-not-lower_stands
-returns-then-not-lower_stands g c = sym (ready_fails (squares_of g.P.Plan.meaning c.args.self.now) (stands c.args.saved.now) c.args.place 8 c.loop-d.d c.loop-d-test.true (sym c.if-not-lower_stands.ensures))
+returns-then-not-lower_stands g c = sym (ready_fails _ _ _ _ _ c.loop-d-test.true (sym c.if-not-lower_stands.ensures))

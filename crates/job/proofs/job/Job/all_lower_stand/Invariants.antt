@@ -5,4 +5,4 @@ use Rattle.job.specs.Meaning.{squares_of}
 use Rattle.job.proofs.job.Job.all_lower_stand.Given as goal
 
 abbrev pub invariant-loop-d : goal.invariant-loop-d
-invariant-loop-d g l = ready_by (squares_of g.P.Plan.meaning l.self) (stands l.saved) l.place l.d ≡ true
+invariant-loop-d g l = ready_by (squares_of g.P.Plan.meaning l.self) (stands l.saved.bits.bytes.now) l.place l.d ≡ true

@@ -5,4 +5,4 @@ use Rattle.job.specs.Maps.{may_stand}
 use Rattle.job.proofs.job.Job.is_closed.Given as goal
 
 abbrev pub invariant-loop-row : goal.invariant-loop-row
-invariant-loop-row g l = all_below (may_stand (squares_of g.P.Plan.meaning l.self) l.saved) (l.row * l.self.size.columns) ≡ true
+invariant-loop-row g l = all_below (may_stand (squares_of g.P.Plan.meaning l.self) l.saved.bits.bytes.now) (l.row * l.self.size.columns) ≡ true

@@ -5,4 +5,4 @@ use Rattle.job.specs.Maps.{may_stand}
 use Rattle.job.proofs.job.Job.is_row_closed.Given as goal
 
 abbrev pub invariant-loop-column : goal.invariant-loop-column
-invariant-loop-column g l = all_below (may_stand (squares_of g.P.Plan.meaning l.self) l.saved) (l.row * l.self.size.columns + l.column) ≡ true
+invariant-loop-column g l = all_below (may_stand (squares_of g.P.Plan.meaning l.self) l.saved.bits.bytes.now) (l.row * l.self.size.columns + l.column) ≡ true
