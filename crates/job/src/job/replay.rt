@@ -1,39 +1,18 @@
 // The squares that stand in a code band, worked again from the drawing: rank by rank, and each rank in reading order.
 ghost use Rattle.std.specs.Prelude.{◌≡◌, suc, ◌+◌, ◌*◌, ◌<◌, length, Some};
-ghost use Rattle.model.specs.Replays.{replay_at, replay_visit, replay_sweep, replay};
-ghost use Rattle.job.specs.Meaning.{squares_of, setting_by};
-ghost use Rattle.job.specs.Patterns.{PatternOf};
+ghost use Rattle.model.specs.Replays.{replay_visit, replay_sweep, replay};
+ghost use Rattle.job.specs.Meaning.{setting_by};
 ghost use Rattle.job.specs.Worked.{kept_if, RowWorked};
 
 use crate::code::OPEN;
 use crate::job::Job;
-use crate::pattern::Pattern;
 use plan::Plan;
 use quantiser::Quantiser;
 use refusal::Refusal;
 
 impl<P: Plan, Q: Quantiser> Job<P, Q> {
-    // Works the square at a place, whose pattern is told; 9 where another code is chosen than the one written.
-    fn replay_place(
-        &self,
-        amounts: &mut [Q::Tone],
-        codes: &[u8],
-        place: usize,
-        pattern: &Pattern,
-    ) -> Result<(), Refusal>
-        requires inside { place < self.now.size.rows * self.now.size.columns }
-        requires amounts { length amounts.old ≡ self.now.size.rows * self.now.size.columns }
-        requires codes { length codes.now ≡ self.now.size.rows * self.now.size.columns }
-        requires pattern { PatternOf (squares_of P.Plan.meaning self.now) place pattern.now.kinds pattern.now.weights pattern.now.last }
-        ensures { kept_if result amounts.new ≡ replay_at (setting_by Q.Tone.Tone.algebra P.Plan.meaning Q.Quantiser.tables self.now) codes.now place amounts.old }
-    {
-        if self.quantise(amounts, place, pattern) != codes[place] {
-            return Err(Refusal::WrongCode);
-        }
-        Ok(())
-    }
-
-    // Works the square at a row and a column if it stands and has the rank whose turn it is.
+    // Works the square at a row and a column if it stands and has the rank whose turn it is; 9 where another code is chosen than the one
+    // written.
     fn replay_square(
         &self,
         amounts: &mut [Q::Tone],
@@ -49,14 +28,18 @@ impl<P: Plan, Q: Quantiser> Job<P, Q> {
         ensures { kept_if result amounts.new ≡ replay_visit (setting_by Q.Tone.Tone.algebra P.Plan.meaning Q.Quantiser.tables self.now) codes.now rank (row * self.now.size.columns + column) (Some amounts.old) }
     {
         let place = row * self.size.columns + column;
-        if codes[place] == OPEN {
+        let written = codes[place];
+        if written == OPEN {
             return Ok(());
         }
         if self.plan.rank(row, column) != rank {
             return Ok(());
         }
         let pattern = self.pattern(row, column);
-        self.replay_place(amounts, codes, place, &pattern)
+        if self.quantise(amounts, place, &pattern) != written {
+            return Err(Refusal::WrongCode);
+        }
+        Ok(())
     }
 
     // Works the squares of a rank in one row.
