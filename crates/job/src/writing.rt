@@ -12,7 +12,8 @@ pub fn count_fixed(codes: &[u8]) -> usize
     codes.iter().filter(|code| **code != OPEN).count()
 }
 
-// Writes the codes of the fixed squares.
+// Writes the codes of the fixed squares. Each is stored by its place in the output, and not through a zip with `iter_mut`, behind which a
+// proof knows no element of what was written.
 pub fn put_codes(codes: &[u8], out: &mut [u8])
     requires { length out.old ≡ length (filter fixed codes.now) }
     ensures { out.new ≡ filter fixed codes.now }
