@@ -1,9 +1,11 @@
 -- The form of a record, place by place.
-use Rattle.std.proofs.Common.{◌≡◌, ℕ, zero, suc, ◌+◌, ◌*◌, ◌/◌, ◌<◌, ◌≤◌, Bool, true, false, cond, not, ◌&&◌, ◌||◌, ltb, List, length, sym, refl, ap, ◌∙◌, ap₂, inl, inr, arith}
-use Rattle.std.proofs.lemmas.Bool.{cases_eq, and_from, and_right, lt-ltb, le-ltb, ne_eqb, or_left, or_right}
+use Rattle.std.proofs.Common.{◌≡◌, ℕ, zero, suc, ◌+◌, ◌*◌, ◌<◌, ◌≤◌, Bool, true, false, cond, not, ◌&&◌, ◌||◌, ltb, List, length, filter, sym, refl, ap, ◌∙◌, zero-add, add-zero, inl, inr, arith}
+use Rattle.std.specs.List.{range_with_len, list_all}
+use Rattle.std.proofs.Math.Bool.{and_comm, and_assoc, and-true}
+use Rattle.std.proofs.lemmas.Bool.{cases_eq, and_from, and_right, lt-ltb, le-ltb, or_left}
 use Rattle.bits.specs.Bits.{bytes_for}
-use Rattle.model.specs.Records.{stands, stand_below, all_below, right_size, spare_clear, right_length}
-use Rattle.model.proofs.OneMore.{stand_below_more, all_below_more, all_below_failed}
+use Rattle.model.specs.Records.{stands, stand_below, all_below, spare_clear}
+use Rattle.model.proofs.OneMore.{stand_below-none, stand_below_more, all_below_more}
 
 -- one place more that stands, or that does not
 module _ (rec : List ℕ) (n count : ℕ) (so_far : count ≡ stand_below rec n) where
@@ -14,6 +16,20 @@ module _ (rec : List ℕ) (n count : ℕ) (so_far : count ≡ stand_below rec n)
   counted_other e =
       let more : stand_below rec (n + 1) ≡ stand_below rec n + 0 = stand_below_more rec n ∙ ap {B = ℕ} (λ b. stand_below rec n + cond b 1 0) e in
       omega arith
+
+-- those that stand of n places from a on, behind those below a
+standing_from : (rec : List ℕ) (a n : ℕ) → length (filter (stands rec) (range_with_len a n)) + stand_below rec a ≡ stand_below rec (a + n)
+standing_from rec a zero = rw (add-zero, zero-add)
+standing_from rec a (suc n) =
+    let rest = standing_from rec (a + 1) n in
+    let here = stand_below_more rec a in
+    let next : a + 1 + n ≡ a + suc n = omega arith in
+    grind (arith, rest, here, ap (stand_below rec) next)
+
+pub standing_all : (rec : List ℕ) (n : ℕ) → length (filter (stands rec) (range_with_len 0 n)) ≡ stand_below rec n
+standing_all rec n =
+    let all = standing_from rec 0 n in
+    omega (arith, all, stand_below-none rec, ap (stand_below rec) (zero-add n))
 
 -- what holds of each number below n holds of all
 pub all_below_each : (p : ℕ → Bool) (n : ℕ) → ((k : ℕ) → k < n → p k ≡ true) → all_below p n ≡ true
@@ -34,28 +50,31 @@ all_below_stays p k (suc n) l e = elim (cases_eq k (suc n)) [
   | inr ne ↦ and_right (p n) _ (all_below_stays p k n (omega arith) e)
 ]
 
--- a spare bit is one behind the last square
+-- a spare bit is one behind the last of n squares
 module _ (rec : List ℕ) (n : ℕ) where
   abbrev pub spare : ℕ → Bool
   spare k = ltb k n || not (stands rec k)
 
-  -- before the first spare bit, after one that is clear, and at one that stands
-  pub spare_none : all_below spare n ≡ true
+  -- before the first spare bit
+  spare_none : all_below spare n ≡ true
   spare_none = all_below_each spare n (λ k l. or_left (ltb k n) _ (lt-ltb k n l))
 
-  pub spare_again : (k : ℕ) → stands rec k ≡ false → all_below spare k ≡ true → all_below spare (k + 1) ≡ true
-  spare_again k e before = all_below_again spare k (or_right (ltb k n) _ (ap not e)) before
+  abbrev pub clear : ℕ → Bool
+  clear k = not (stands rec k)
 
-  pub spare_stands : (k : ℕ) → n ≤ k → k < 8 * bytes_for n → stands rec k ≡ true → spare_clear n rec ≡ false
-  spare_stands k l h e = all_below_failed spare k (8 * bytes_for n) h (ap₂ ◌||◌ (le-ltb k n l) (ap not e))
+  -- the m bits from a on
+  clear_from : (a m : ℕ) → n ≤ a → all_below spare (a + m) ≡ (all_below spare a && list_all clear (range_with_len a m))
+  clear_from a zero h = rw (add-zero, and-true)
+  clear_from a (suc m) h =
+      let before = all_below spare a in
+      let rest = list_all clear (range_with_len (a + 1) m) in
+      let here : spare a ≡ clear a = ap (λ b. b || clear a) (le-ltb a n h) in
+      let next : a + suc m ≡ a + 1 + m = omega arith in
+      ap (all_below spare) next
+      ∙ clear_from (a + 1) m (omega arith)
+      ∙ ap (λ b. b && rest) (all_below_more spare a ∙ ap (λ b. b && before) here ∙ and_comm (clear a) before)
+      ∙ and_assoc before (clear a) rest
 
--- a record that ends before its codes begin is too short
-pub too_short : (rows columns : ℕ) (rec : List ℕ) → length rec < 4 + bytes_for (rows * columns)
-    → (right_size rows columns rec && (spare_clear (rows * columns) rec && right_length (rows * columns) rec)) ≡ false
-too_short rows columns rec l =
-    and_right (right_size rows columns rec) _ (and_right (spare_clear (rows * columns) rec) _
-    (ne_eqb (length rec) (4 + bytes_for (rows * columns) + stand_below rec (rows * columns)) (λ e. omega arith)))
-
--- the bit of a square lies within a record that has its whole map
-pub bit_within : (rec : List ℕ) (s n : ℕ) → s < n → 4 + bytes_for n ≤ length rec → 4 + s / 8 < length rec
-bit_within rec s n l h = omega arith
+  pub clear_all : (m : ℕ) → n + m ≡ 8 * bytes_for n → list_all clear (range_with_len n m) ≡ spare_clear n rec
+  clear_all m e =
+      sym (ap (all_below spare) (sym e) ∙ clear_from n m (omega arith) ∙ ap (λ b. b && list_all clear (range_with_len n m)) (spare_none))

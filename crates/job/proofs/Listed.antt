@@ -1,12 +1,12 @@
 -- Lists of losses, square by square and row by row.
 use Rattle.std.proofs.Common.{◌≡◌, ℕ, ◌+◌, ◌-◌, ◌<◌, ◌≤◌, Bool, true, false, cond, ◌&&◌, ◌||◌, ltb, List, [], ◌∷◌, ◌++◌, map, length, take, drop, set, sym, refl, ap, ◌∙◌, subst, arith}
 use Rattle.std.proofs.lemmas.List.{take_more_set, drop-set-lt, drop-drop, take-append-drop, map_push}
-use Rattle.std.proofs.lemmas.Bool.{cond-true, cond-false, lt-ltb, le-ltb, or_left, or_right, or_from}
+use Rattle.std.proofs.lemmas.Bool.{cond-true, cond-false, le-ltb, or_from}
 use Rattle.tone.specs.Algebra.{Algebra}
 use Rattle.diffusion.specs.Bands.{standing}
 use Rattle.diffusion.specs.Neighbourhoods.{Neighbourhood, baron}
 use Rattle.model.specs.Calls.{Listed, listed, list_at}
-use Rattle.model.specs.Calls.Answer.{Count, Refused}
+use Rattle.model.specs.Calls.Answer.{Count}
 use Rattle.job.specs.Listings.{lost_below, Listing}
 use Rattle.job.specs.Shown.{tone_at}
 use Rattle.job.proofs.Barons.{lost-none, lost_more, lost-same, lost_grows, count_more, count_same}
@@ -29,10 +29,6 @@ module _ {T : Type 0} (tone : Algebra T) (squares : Neighbourhood) (codes : List
     errors = ap (map (tone_at tone amounts)) (sym (lost-none squares codes));
     errors_behind = refl;
   }
-
-  -- the same lists as they are now, for those that come next
-  pub listing_now : (n k : ℕ) (old_ps ps : List ℕ) (old_es es : List T) → Listing tone squares codes amounts n k old_ps ps old_es es → Listing tone squares codes amounts n k ps ps es es
-  listing_now n k old_ps ps old_es es l = record { many = l.many; places = l.places; places_behind = refl; errors = l.errors; errors_behind = refl }
 
   pub listing_at : {n m k i : ℕ} {old_ps ps new_ps : List ℕ} {old_es es new_es : List T} → n ≡ m → i ≡ k → new_ps ≡ ps → new_es ≡ es
       → Listing tone squares codes amounts n k old_ps ps old_es es → Listing tone squares codes amounts m i old_ps new_ps old_es new_es
@@ -89,14 +85,6 @@ module _ {T : Type 0} (tone : Algebra T) (squares : Neighbourhood) (codes : List
 
 -- what is answered, by the test of the bands' lengths and then by those of the lists
 module _ {T : Type 0} (fit : Bool) (is : fit ≡ true) (ps : List ℕ) (es : List T) (places : List ℕ) (errors : List T) (refused : Listed T) where
-  pub list_short_places : length places < length ps → listed (Refused 6) places errors ≡ cond fit (list_at ps es places errors) refused
-  list_short_places h = sym (cond-true fit (list_at ps es places errors) refused is
-      ∙ cond-true (ltb (length places) (length ps) || ltb (length errors) (length ps)) _ _ (or_left _ _ (lt-ltb (length places) (length ps) h)))
-
-  pub list_short_errors : length errors < length ps → listed (Refused 6) places errors ≡ cond fit (list_at ps es places errors) refused
-  list_short_errors h = sym (cond-true fit (list_at ps es places errors) refused is
-      ∙ cond-true (ltb (length places) (length ps) || ltb (length errors) (length ps)) _ _ (or_right _ _ (lt-ltb (length errors) (length ps) h)))
-
   pub list_whole : (k : ℕ) (new_ps : List ℕ) (new_es : List T) → k ≡ length ps → length ps ≤ length places → length ps ≤ length errors
       → take k new_ps ≡ ps → drop k new_ps ≡ drop k places → take k new_es ≡ es → drop k new_es ≡ drop k errors
       → listed (Count k) new_ps new_es ≡ cond fit (list_at ps es places errors) refused

@@ -1,26 +1,14 @@
 -- Lists written part by part.
-use Rattle.std.proofs.Common.{◌≡◌, ℕ, ◌+◌, ◌<◌, ◌≤◌, List, [], ◌∷◌, ◌++◌, length, take, drop, set, sym, refl, ap, ◌∙◌, append_assoc, arith, length-append, length-drop, rules}
+use Rattle.std.proofs.Common.{◌≡◌, ℕ, ◌+◌, ◌≤◌, List, ◌++◌, length, take, drop, sym, ap, ◌∙◌, append_assoc, arith, length-append, length-drop, rules}
 use borrow.Rule.Slice.PartMut.{put_mid, post_of}
-use Rattle.std.proofs.lemmas.List.{places, take_more_set, take-append-drop, take_at, length-take-le}
+use Rattle.std.proofs.lemmas.List.{places, take-append-drop, take_at, length-take-le}
 use Rattle.std.proofs.lemmas.Slice.{take-put_mid, drop-put_mid, drop-append-drop}
 
 length-put_mid : (a k : ℕ) (xs ys : List ℕ) → a + k ≤ length xs → length ys ≡ k → length (put_mid a k xs ys) ≡ length xs
 length-put_mid a k xs ys h e = search (rules, places)
 
--- one more element, and one more part, behind what is known of the front
-pub front_set : (xs ys : List ℕ) (i j v : ℕ) → i < length xs → take i xs ≡ ys → j ≡ i + 1 → take j (set xs i v) ≡ ys ++ v ∷ []
-front_set xs ys i j v h e at = ap (λ n. take n (set xs i v)) at ∙ take_more_set xs i v h ∙ ap (λ l. l ++ v ∷ []) e
-
 front_part : (xs ys zs : List ℕ) (a k n : ℕ) → a ≤ length xs → take a xs ≡ ys → n ≡ a + length zs → take n (put_mid a k xs zs) ≡ ys ++ zs
 front_part xs ys zs a k n h e at = take-put_mid a k xs zs n at h ∙ ap (λ l. l ++ zs) e
-
-pub four_set : (xs : List ℕ) (a b c d : ℕ) → length xs ≡ 4 → set (set (set (set xs 0 a) 1 b) 2 c) 3 d ≡ a ∷ b ∷ c ∷ d ∷ []
-four_set [] a b c d e = absurd (omega (arith, e))
-four_set (x ∷ []) a b c d e = absurd (omega (arith, e))
-four_set (x ∷ (y ∷ [])) a b c d e = absurd (omega (arith, e))
-four_set (x ∷ (y ∷ (z ∷ []))) a b c d e = absurd (omega (arith, e))
-four_set (x ∷ (y ∷ (z ∷ (w ∷ [])))) a b c d e = refl
-four_set (x ∷ (y ∷ (z ∷ (w ∷ (v ∷ xs))))) a b c d e = absurd (omega (arith, e))
 
 -- how long a part is that is lent behind a front of s elements
 pub part_long : (xs ds : List ℕ) (s k n : ℕ) → length ds ≡ s → k ≡ n → s + n ≤ length xs → length (take k (drop s (ds ++ post_of 0 s xs))) ≡ n

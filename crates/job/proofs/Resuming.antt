@@ -1,12 +1,12 @@
 -- Resume by its outcome: each refusal, and the job that is brought back.
-use Rattle.std.proofs.Common.{◌≡◌, ℕ, suc, ◌+◌, ◌*◌, Bool, true, false, ◌&&◌, List, length, get_or, replicate, Some, sym, refl, ap, ◌∙◌, subst, inl, inr}
-use Rattle.std.proofs.lemmas.Bool.{cases_eq, cond-true, and_parts, eqb-true, false≢true}
+use Rattle.std.proofs.Common.{◌≡◌, ℕ, suc, ◌*◌, true, false, List, length, get_or, replicate, Some, Result, is_ok, sym, ap, ◌∙◌, inl, inr}
+use Rattle.std.proofs.lemmas.Bool.{cases_eq, cond-true}
+use Rattle.refusal.specs.declared.refusal.Refusal.{Refusal}
 use Rattle.tone.specs.Algebra.{Algebra}
 use Rattle.tone.specs.Algebra as tones
 use Rattle.plan.specs.Ranks.{Ranks}
 use Rattle.plan.specs.Ranks as plans
 use Rattle.quantiser.specs.Tables.{Tables, Sound}
-use Rattle.bits.specs.Bits.{bytes_for}
 use Rattle.diffusion.specs.Bands.{Bands, bands, opened}
 use Rattle.diffusion.specs.Draft.{Setting}
 use Rattle.diffusion.specs.Drawings.{setting_of}
@@ -14,7 +14,7 @@ use Rattle.diffusion.specs.Sets.{none}
 use Rattle.model.specs.Calls.{told, resume_at}
 use Rattle.model.specs.Calls.Answer.{Resumed, Refused}
 use Rattle.model.specs.Jobs.{Job, fits, job_of}
-use Rattle.model.specs.Records.{stands, stand_below, right_size, spare_clear, right_length, well_formed, closed_by, record_refusal}
+use Rattle.model.specs.Records.{stands, well_formed, closed_by, record_refusal}
 use Rattle.model.specs.Replays.{codes_in, replay}
 use Rattle.model.specs.Steps.{resume_on}
 use Rattle.model.specs.Theorems.{Resumes}
@@ -23,41 +23,9 @@ use Rattle.model.proofs.Opened.{lawful_job, opened_on_is, opened_on-none}
 use Rattle.model.proofs.Resumed.{resumes}
 use Rattle.job.specs.Coded.{EachCoded}
 use Rattle.job.specs.Meaning.{band}
-use Rattle.job.specs.Worked.{kept_if, Reworked}
+use Rattle.job.specs.Worked.{Reworked}
 use Rattle.job.proofs.Fitting.{Fitting, fitting}
 use Rattle.job.proofs.Working.{replay-same}
-
--- a record that is well formed has just the due length
-pub due-length : (rows columns : ℕ) (rec : List ℕ) → (right_size rows columns rec && (spare_clear (rows * columns) rec && right_length (rows * columns) rec)) ≡ true
-    → length rec ≡ 4 + bytes_for (rows * columns) + stand_below rec (rows * columns)
-due-length rows columns rec formed =
-    eqb-true (length rec) (4 + bytes_for (rows * columns) + stand_below rec (rows * columns))
-    (and_parts (spare_clear (rows * columns) rec) (right_length (rows * columns) rec) (and_parts (right_size rows columns rec) _ formed).1).1
-
--- what the replay of the codes that were written into a band of m squares leaves
-module _ {T : Type 0} (j : Setting T) (top : ℕ) (drawing : List T) (rec cs : List ℕ) (xs : List T) (m : ℕ) (long : m ≡ j.squares.count) where
-  -- a standing square had no code
-  pub reworked_not : (EachCoded m rec → ⊥) → Reworked j top drawing rec false cs xs
-  reworked_not not_each = record {
-    each = λ e. absurd (false≢true e);
-    codes_are = λ e. absurd (false≢true e);
-    amounts_are = λ e. absurd (false≢true e);
-    failed = λ e each. absurd (not_each (subst (λ n. EachCoded n rec) (sym long) each));
-  }
-
-  -- each had one, and the replay says the rest
-  pub reworked_by : (r : Bool) (copied : List T) → EachCoded m rec → cs ≡ codes_in m rec → copied ≡ drawing → kept_if r xs ≡ replay j cs (Some copied) (suc top)
-      → Reworked j top drawing rec r cs xs
-  reworked_by r copied each written from left =
-      let is : cs ≡ codes_in j.squares.count rec = written ∙ ap (λ n. codes_in n rec) long in
-      let all : replay j (codes_in j.squares.count rec) (Some drawing) (suc top) ≡ kept_if r xs
-      = sym (left ∙ ap (λ ys. replay j cs (Some ys) (suc top)) from ∙ ap (λ ds. replay j ds (Some drawing) (suc top)) is) in
-      record {
-        each = λ e. subst (λ n. EachCoded n rec) long each;
-        codes_are = λ e. is;
-        amounts_are = λ e. all ∙ ap (λ t. kept_if t xs) e;
-        failed = λ e every. all ∙ ap (λ t. kept_if t xs) e;
-      }
 
 module _ {T : Type 0} (tone : Algebra T) (rows columns : ℕ) (plan : Ranks) (tables : Tables T) (drawing : List T) (rec : List ℕ) (b : Bands T) where
   -- the job, and its setting on a drawing of zeros
@@ -98,24 +66,24 @@ module _ {T : Type 0} (tone : Algebra T) (rows columns : ℕ) (plan : Ranks) (ta
         ∙ replay-same tone rows columns plan tables (λ s. get_or drawing s tone.zero) (λ s. tone.zero) cs (Some drawing) r
 
     -- the bands are those of just the standing squares
-    pub accepted : (cs : List ℕ) (xs : List T) → Reworked plain plan.top drawing rec true cs xs → told Resumed (band cs xs) ≡ resume_on p rec b
-    accepted cs xs w =
-        let k = judged.some (w.each refl) xs (replay_is (codes_in (rows * columns) rec) (suc plan.top) ∙ w.amounts_are refl) in
-        ap (λ ds. told Resumed (band ds xs)) (w.codes_are refl) ∙ ap (told Resumed) (sym k.1) ∙ by_refusal 0 fit k.0
+    pub accepted : (cs : List ℕ) (xs : List T) (r : Result (Unit {0}) Refusal) → is_ok r ≡ true → Reworked plain plan.top drawing rec r cs xs → told Resumed (band cs xs) ≡ resume_on p rec b
+    accepted cs xs r right w =
+        let k = judged.some (w.each right) xs (replay_is (codes_in (rows * columns) rec) (suc plan.top) ∙ w.amounts_are right) in
+        ap (λ ds. told Resumed (band ds xs)) (w.codes_are right) ∙ ap (told Resumed) (sym k.1) ∙ by_refusal 0 fit k.0
 
     -- a code that is not the definition's
-    nine : (cs : List ℕ) (xs : List T) → Reworked plain plan.top drawing rec false cs xs → record_refusal p rec ≡ 9
-    nine cs xs w = elim (cases_eq (record_refusal p rec) 9) [
+    nine : (cs : List ℕ) (xs : List T) (r : Result (Unit {0}) Refusal) → is_ok r ≡ false → Reworked plain plan.top drawing rec r cs xs → record_refusal p rec ≡ 9
+    nine cs xs r wrong w = elim (cases_eq (record_refusal p rec) 9) [
       | inl e ↦ e
       | inr ne ↦
           (let each : EachCoded (rows * columns) rec = λ s l t e. ne (judged.full s l t e) in
-          judged.wrong each (replay_is (codes_in (rows * columns) rec) (suc plan.top) ∙ w.failed refl each))
+          judged.wrong each (replay_is (codes_in (rows * columns) rec) (suc plan.top) ∙ w.failed wrong each))
     ]
 
     -- every square is open, and holds the drawing's tone
-    pub refused_code : (cs : List ℕ) (xs : List T) → Reworked plain plan.top drawing rec false cs xs
+    pub refused_code : (cs : List ℕ) (xs : List T) (r : Result (Unit {0}) Refusal) → is_ok r ≡ false → Reworked plain plan.top drawing rec r cs xs
         → (ds : List ℕ) (ys : List T) → ds ≡ replicate (length b.codes) 255 → ys ≡ drawing → told (Refused 9) (band ds ys) ≡ resume_on p rec b
-    refused_code cs xs w ds ys ds_are ys_are =
+    refused_code cs xs r wrong w ds ys ds_are ys_are =
         (λ i. told (Refused 9) (band (ds_are i) (ys_are i)))
         ∙ ap (told (Refused 9)) (opened_on-none tone rows columns plan tables drawing tl pl sound b lengths.drawing lengths.codes)
-        ∙ by_refusal 9 fit (nine cs xs w)
+        ∙ by_refusal 9 fit (nine cs xs r wrong w)

@@ -1,9 +1,9 @@
 -- A square that is fixed where it is open, and what that is in an attempt and in Finish.
-use Rattle.std.proofs.Common.{◌≡◌, ℕ, ◌<◌, Bool, true, false, cond, not, ◌&&◌, List, length, get_or, set, sym, refl, ap, ◌∙◌, ap₂, inl, inr, arith}
+use Rattle.std.proofs.Common.{◌≡◌, ℕ, ◌<◌, Bool, true, false, cond, not, ◌&&◌, length, get_or, sym, refl, ap, ◌∙◌, ap₂, inl, inr, arith}
 use Rattle.std.proofs.lemmas.List.{get_or-set_same}
 use Rattle.std.proofs.lemmas.Bool.{cases_Bool, eq-eqb}
-use Rattle.diffusion.specs.Bands.{Bands, standing, spread, fixed_in}
-use Rattle.diffusion.specs.Draft.{Setting, sends, left}
+use Rattle.diffusion.specs.Bands.{Bands, standing, fixed_in}
+use Rattle.diffusion.specs.Draft.{Setting}
 use Rattle.diffusion.specs.Neighbourhoods.{Laws}
 use Rattle.diffusion.specs.Sets.{every, ready_by}
 use Rattle.diffusion.specs.Sweeps.{due_in}
@@ -15,26 +15,9 @@ use Rattle.job.specs.Single.{attempt}
 use Rattle.job.proofs.Lower.{lower_ready}
 
 module _ {T : Type 0} (j : Setting T) (s : ℕ) (b : Bands T) where
-  -- a fixed square stays as it is
-  pub taken-fixed : standing b.codes s ≡ true → progress 0 b ≡ taken j s b
-  taken-fixed is = sym (ap (λ f. progress (cond f 0 1) (cond f b (fixed_in j s b))) is)
-
   -- an open one is fixed
   pub taken_open : standing b.codes s ≡ false → taken j s b ≡ progress 1 (fixed_in j s b)
   taken_open is = ap (λ f. progress (cond f 0 1) (cond f b (fixed_in j s b))) is
-
-  -- by what the code works out
-  pub taken_made : (x : T) (code : ℕ) (e : T) (xs : List T) → standing b.codes s ≡ false → x ≡ get_or b.amounts s j.algebra.zero
-      → code ≡ j.tables.choice x → e ≡ j.algebra.difference x (j.tables.output code)
-      → xs ≡ spread j.algebra j.squares s (sends j.algebra j.squares s e) 8 (set b.amounts s e)
-      → progress 1 (record { codes = set b.codes s code; amounts = xs }) ≡ taken j s b
-  taken_made x code e xs is_open x_is code_is e_is xs_is =
-      let y = get_or b.amounts s j.algebra.zero in
-      let code_at : code ≡ j.tables.choice y = code_is ∙ ap j.tables.choice x_is in
-      let e_at : e ≡ left j y = e_is ∙ ap₂ j.algebra.difference x_is (ap j.tables.output code_at) in
-      let xs_at : xs ≡ spread j.algebra j.squares s (sends j.algebra j.squares s (left j y)) 8 (set b.amounts s (left j y))
-      = xs_is ∙ ap (λ z. spread j.algebra j.squares s (sends j.algebra j.squares s z) 8 (set b.amounts s z)) e_at in
-      (λ i. progress 1 (record { codes = set b.codes s (code_at i); amounts = xs_at i })) ∙ sym (taken_open is_open)
 
   -- the bands after an open square was taken
   pub after-taken : (n : ℕ) (after : Bands T) → standing b.codes s ≡ false → progress n after ≡ taken j s b → after ≡ fixed_in j s b

@@ -1,5 +1,6 @@
 -- A record's codes written into a code band, place by place.
-use Rattle.std.proofs.Common.{◌≡◌, ℕ, zero, suc, ◌+◌, ◌<◌, ◌≤◌, true, false, cond, List, length, get_or, set, sym, refl, ap, ◌∙◌, inl, inr, arith, below_more}
+use Rattle.std.proofs.Common.{◌≡◌, ℕ, zero, suc, ◌+◌, ◌<◌, ◌≤◌, true, false, cond, List, ◌∷◌, length, get_or, drop, set, sym, refl, ap, ◌∙◌, inl, inr, arith, length-drop, below_more}
+use Rattle.std.proofs.Math.Seq.{drop-cons}
 use Rattle.std.proofs.lemmas.List.FromFn.{fill_by_all}
 use Rattle.std.proofs.lemmas.List.Edits.{fill_by_more}
 use Rattle.std.proofs.lemmas.Bool.{cases_eq, cond-true, cond-false, false≢true}
@@ -24,57 +25,65 @@ module _ (n : ℕ) (rec : List ℕ) where
   abbrev pub code_at : ℕ → ℕ
   code_at s = cond (stands rec s) (code_in n rec s) 255
 
-  -- the codes of the places below s are written, none of them is 255 where the place stands, and the next code lies at `next`
-  pub record Written (s next : ℕ) (cs : List ℕ) : Type 0 where
-    pub next_is : next ≡ 4 + bytes_for n + stand_below rec s
+  -- the codes of the places below s are written, none of them is 255 where the place stands, and the codes of the others are left
+  pub record Written (s : ℕ) (left cs : List ℕ) : Type 0 where
+    pub due : length (drop (4 + bytes_for n) rec) ≡ stand_below rec n
+    pub left_are : left ≡ drop (4 + bytes_for n + stand_below rec s) rec
     pub codes : (k : ℕ) → k < s → get_or cs k 0 ≡ code_at k
     pub each : (k : ℕ) → k < s → stands rec k ≡ true → code_in n rec k ≡ 255 → ⊥
 
   -- before the first place
-  pub written_none : (cs : List ℕ) → Written 0 (4 + bytes_for n) cs
-  written_none cs = record {
-    next_is = omega (arith, stand_below-none rec);
-    codes = λ k l. absurd (omega arith);
-    each = λ k l. absurd (omega arith);
-  }
+  pub written_none : (m : ℕ) (given cs : List ℕ) → n ≡ m → given ≡ drop (4 + bytes_for m) rec → length given ≡ stand_below rec m → Written 0 given cs
+  written_none m given cs same is due =
+      let all : 4 + bytes_for n + stand_below rec 0 ≡ 4 + bytes_for n = omega (arith, stand_below-none rec) in
+      record {
+        due = rw (same, ← is) due;
+        left_are = rw (all, same) is;
+        codes = λ k l. absurd (omega arith);
+        each = λ k l. absurd (omega arith);
+      }
 
-  -- a standing square has its code within the record
-  pub next_within : (s next : ℕ) → next ≡ 4 + bytes_for n + stand_below rec s → s < n → stands rec s ≡ true → length rec ≡ 4 + bytes_for n + stand_below rec n → next < length rec
-  next_within s next is l e due =
-      let one = counted-standing rec s (stand_below rec s) refl e in
-      let more = stand_below_rises rec (s + 1) n (omega arith) in
-      omega arith
+  module _ (s : ℕ) (left cs : List ℕ) (w : Written s left cs) (inside : s < n) where
+    -- a standing place has its code at the front of those that are left
+    pub left_begin : stands rec s ≡ true → left ≡ code_in n rec s ∷ drop (4 + bytes_for n + stand_below rec (s + 1)) rec
+    left_begin e =
+        let one = counted-standing rec s (stand_below rec s) refl e in
+        let more = stand_below_rises rec (s + 1) n (omega arith) in
+        let next : suc (4 + bytes_for n + stand_below rec s) ≡ 4 + bytes_for n + stand_below rec (s + 1) = omega arith in
+        w.left_are ∙ drop-cons rec (4 + bytes_for n + stand_below rec s) 0 (omega (arith, w.due, length-drop (4 + bytes_for n) rec)) ∙ ap (λ k. code_in n rec s ∷ drop k rec) next
 
-  module _ (s next : ℕ) (cs : List ℕ) (w : Written s next cs) where
-    -- the code that is read
-    pub read_is : get_or rec next 0 ≡ code_in n rec s
-    read_is = ap (λ i. get_or rec i 0) w.next_is
-
-    -- one place more, that stands and has a code,
-    pub written_standing : s < length cs → stands rec s ≡ true → (get_or rec next 0 ≡ 255 → ⊥) → Written (s + 1) (next + 1) (set cs s (get_or rec next 0))
-    written_standing l e ne = record {
-      next_is = (let one = counted-standing rec s (stand_below rec s) refl e in let is = w.next_is in omega arith);
-      codes = (let same : get_or rec next 0 ≡ code_at s = read_is ∙ sym (cond-true (stands rec s) (code_in n rec s) 255 e) in
-          λ k h. ap (λ c. get_or (set cs s c) k 0) same ∙ fill_by_more code_at cs s 0 l w.codes k h);
-      each = below_more (λ k. stands rec k ≡ true → code_in n rec k ≡ 255 → ⊥) s w.each (λ t is. ne (read_is ∙ is));
-    }
+    -- one place more that stands
+    pub written_standing : (x : ℕ) (rest : List ℕ) → s < length cs → stands rec s ≡ true → left ≡ x ∷ rest → (x ≡ 255 → ⊥) → Written (s + 1) rest (set cs s x)
+    written_standing x rest l e is ne =
+        let begins = left_begin e in
+        let read : x ≡ code_in n rec s = cc in
+        let same : x ≡ code_at s = read ∙ sym (cond-true (stands rec s) (code_in n rec s) 255 e) in
+        record {
+          due = w.due;
+          left_are = cc;
+          codes = λ k h. ap (λ c. get_or (set cs s c) k 0) same ∙ fill_by_more code_at cs s 0 l w.codes k h;
+          each = below_more (λ k. stands rec k ≡ true → code_in n rec k ≡ 255 → ⊥) s w.each (λ t is. ne (read ∙ is));
+        }
 
     -- or that does not stand
-    pub written_open : s < length cs → stands rec s ≡ false → Written (s + 1) next (set cs s 255)
-    written_open l e = record {
-      next_is = (let same = counted_other rec s (stand_below rec s) refl e in let is = w.next_is in omega arith);
-      codes = (let same : 255 ≡ code_at s = sym (cond-false (stands rec s) (code_in n rec s) 255 e) in
-          λ k h. ap (λ c. get_or (set cs s c) k 0) same ∙ fill_by_more code_at cs s 0 l w.codes k h);
-      each = below_more (λ k. stands rec k ≡ true → code_in n rec k ≡ 255 → ⊥) s w.each (λ t is. false≢true (sym e ∙ t));
-    }
+    pub written_open : s < length cs → stands rec s ≡ false → Written (s + 1) left (set cs s 255)
+    written_open l e =
+        let same = counted_other rec s (stand_below rec s) refl e in
+        record {
+          due = w.due;
+          left_are = w.left_are ∙ ap (λ k. drop (4 + bytes_for n + k) rec) same;
+          codes = (let same : 255 ≡ code_at s = sym (cond-false (stands rec s) (code_in n rec s) 255 e) in
+              λ k h. ap (λ c. get_or (set cs s c) k 0) same ∙ fill_by_more code_at cs s 0 l w.codes k h);
+          each = below_more (λ k. stands rec k ≡ true → code_in n rec k ≡ 255 → ⊥) s w.each (λ t is. false≢true (sym e ∙ t));
+        }
 
     -- a standing square without a code
-    pub not_each : s < n → stands rec s ≡ true → get_or rec next 0 ≡ 255 → EachCoded n rec → ⊥
-    not_each l e is each = each s l e (sym read_is ∙ is)
+    pub not_each : (x : ℕ) (rest : List ℕ) → stands rec s ≡ true → left ≡ x ∷ rest → x ≡ 255 → EachCoded n rec → ⊥
+    not_each x rest e is mark each =
+        let begins = left_begin e in
+        let read : x ≡ code_in n rec s = cc in
+        each s inside e (sym read ∙ mark)
 
-    -- after the last place
-    pub each_all : s ≡ n → EachCoded n rec
-    each_all e = λ k l. w.each k (omega arith)
-
-    pub codes_all : s ≡ n → length cs ≡ n → cs ≡ codes_in n rec
-    codes_all e long = fill_by_all code_at cs n 0 long (λ k l. w.codes k (omega arith))
+  -- after the last place
+  pub codes_all : (s : ℕ) (left cs : List ℕ) → Written s left cs → n ≤ s → length cs ≡ n → EachCoded n rec × (cs ≡ codes_in n rec)
+  codes_all s left cs w all long = (λ k l. w.each k (omega arith), fill_by_all code_at cs n 0 long (λ k l. w.codes k (omega arith)))

@@ -1,39 +1,49 @@
--- A replay, square by square, row by row and rank by rank.
-use Rattle.std.proofs.Common.{◌≡◌, ℕ, zero, suc, ◌+◌, ◌*◌, ◌≤◌, true, false, ◌&&◌, eqb, List, Some, None, Option, sym, refl, ap, ◌∙◌}
-use Rattle.std.proofs.lemmas.Bool.{cond-true, cond-false, eq-eqb, ne_eqb, and_from, and_left, and_right}
+-- A replay, square by square and rank by rank.
+use Rattle.std.proofs.Common.{◌≡◌, ℕ, zero, suc, ◌+◌, ◌*◌, ◌<◌, ◌≤◌, List, length, get_or, Some, None, Option, Ok, Err, Result, IsErr, sym, refl, ap, ◌∙◌}
+use Rattle.std.proofs.lemmas.List.{get_or_default}
+use Rattle.std.proofs.lemmas.Bool.{false≢true, eq-eqb, ne_eqb}
+use Rattle.refusal.specs.declared.refusal.Refusal.{Refusal}
 use Rattle.tone.specs.Algebra.{Algebra}
 use Rattle.plan.specs.Ranks.{Ranks}
 use Rattle.quantiser.specs.Tables.{Tables}
-use Rattle.diffusion.specs.Bands.{standing}
 use Rattle.diffusion.specs.Draft.{Setting}
 use Rattle.diffusion.specs.Drawings.{setting_of}
-use Rattle.model.specs.Replays.{replay_at, replay_visit, replay_sweep, replay}
+use Rattle.model.specs.Replays.{settle, replay_visit, replay_sweep, replay}
 use Rattle.model.proofs.OneMore.{replay_sweep_more, replay_sweep_failed, replay_more, replay_failed}
-use Rattle.job.specs.Worked.{RowWorked}
+use Rattle.job.specs.Worked.{kept_if}
+use Rattle.job.proofs.Standing.{standing-fixed}
+
+-- nothing is kept where a `?` ends the work
+pub kept_none : {T : Type 0} (r : Result (Unit {0}) Refusal) (xs : List T) → IsErr r → kept_if r xs ≡ None
+kept_none (Ok u) xs e = absurd (false≢true e)
+kept_none (Err x) xs e = refl
 
 module _ {T : Type 0} (j : Setting T) (cs : List ℕ) (r : ℕ) where
-  -- a square that does not stand, one of another rank, and one whose turn it is
-  pub visit_open : (s : ℕ) (xs : List T) → standing cs s ≡ false → Some xs ≡ replay_visit j cs r s (Some xs)
-  visit_open s xs e = sym (cond-false (eqb (j.squares.rank s) r && standing cs s) (replay_at j cs s xs) (Some xs) (and_right (eqb (j.squares.rank s) r) _ e))
+  -- a standing square whose turn it is, by the code that is chosen for it and the one that is read
+  module _ (s : ℕ) (xs : List T) (turn : j.squares.rank s ≡ r) (inside : s < length cs) (stands : get_or cs s 0 ≡ 255 → ⊥)
+      (code : ℕ) (chosen : code ≡ j.tables.choice (get_or xs s j.algebra.zero)) where
+    read : get_or cs s 255 ≡ get_or cs s 0
+    read = get_or_default cs s 255 0 inside
 
+    pub visit_right : (ys : List T) → code ≡ get_or cs s 0 → ys ≡ settle j s (get_or xs s j.algebra.zero) xs → Some ys ≡ replay_visit j cs r s (Some xs)
+    visit_right ys right is =
+        rw (eq-eqb (j.squares.rank s) r turn, standing-fixed cs s inside stands, eq-eqb (j.tables.choice (get_or xs s j.algebra.zero)) (get_or cs s 255) (sym chosen ∙ right ∙ sym read)) (ap Some is)
+
+    pub visit_wrong : (code ≡ get_or cs s 0 → ⊥) → None ≡ replay_visit j cs r s (Some xs)
+    visit_wrong wrong =
+        rw (eq-eqb (j.squares.rank s) r turn, standing-fixed cs s inside stands, ne_eqb (j.tables.choice (get_or xs s j.algebra.zero)) (get_or cs s 255) (λ e. wrong (chosen ∙ e ∙ read)))
+
+  -- a square of another rank
   pub visit_other : (s : ℕ) (xs : List T) → (j.squares.rank s ≡ r → ⊥) → Some xs ≡ replay_visit j cs r s (Some xs)
-  visit_other s xs ne =
-      sym (cond-false (eqb (j.squares.rank s) r && standing cs s) (replay_at j cs s xs) (Some xs) (and_left (eqb (j.squares.rank s) r) _ (ne_eqb (j.squares.rank s) r ne)))
+  visit_other s xs other = rw (ne_eqb (j.squares.rank s) r other) refl
 
-  pub visit_turn : (s : ℕ) (xs : List T) (o : Option (List T)) → j.squares.rank s ≡ r → standing cs s ≡ true → o ≡ replay_at j cs s xs → o ≡ replay_visit j cs r s (Some xs)
-  visit_turn s xs o e w is =
-      is ∙ sym (cond-true (eqb (j.squares.rank s) r && standing cs s) (replay_at j cs s xs) (Some xs) (and_from (eqb (j.squares.rank s) r) _ (eq-eqb (j.squares.rank s) r e) w))
+  -- a place more, and the rest after a wrong code
+  pub place_again : (start : Option (List T)) (n : ℕ) (ys : List T) (o : Option (List T)) → Some ys ≡ replay_sweep j cs r start n → o ≡ replay_visit j cs r n (Some ys)
+      → o ≡ replay_sweep j cs r start (n + 1)
+  place_again start n ys o before is = is ∙ ap (replay_visit j cs r n) before ∙ sym (replay_sweep_more j cs r start n)
 
-  -- a row: no place yet, one place more, and the rest after a wrong code
-  pub row_begun : (k n : ℕ) (xs : List T) → k ≡ n → RowWorked j cs r k n xs (Some xs)
-  row_begun k n xs e = λ start h. sym h ∙ ap (replay_sweep j cs r start) e
-
-  pub row_again : (k n m : ℕ) (xs ys : List T) (o : Option (List T)) → n + 1 ≡ m → RowWorked j cs r k n xs (Some ys) → o ≡ replay_visit j cs r n (Some ys) → RowWorked j cs r k m xs o
-  row_again k n m xs ys o e before is =
-      λ start h. is ∙ ap (replay_visit j cs r n) (before start h) ∙ sym (replay_sweep_more j cs r start n) ∙ ap (replay_sweep j cs r start) e
-
-  pub row_failed : (k n m : ℕ) (xs : List T) → n ≤ m → RowWorked j cs r k n xs None → RowWorked j cs r k m xs None
-  row_failed k n m xs l failed = λ start h. sym (replay_sweep_failed j cs r start n m l (sym (failed start h)))
+  pub place_failed : (start : Option (List T)) (k n : ℕ) → k ≤ n → None ≡ replay_sweep j cs r start k → None ≡ replay_sweep j cs r start n
+  place_failed start k n l failed = sym (replay_sweep_failed j cs r start k n l (sym failed))
 
 module _ {T : Type 0} (j : Setting T) (cs : List ℕ) where
   -- a rank more, and the rest after a wrong code

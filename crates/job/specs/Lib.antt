@@ -1,5 +1,6 @@
 pub mod Answers
 pub mod Coded
+pub mod Formed
 pub mod Listings
 pub mod Maps
 pub mod Meaning

@@ -1,22 +1,20 @@
 -- What a part of a replay leaves: the amounts, or nothing where a code was wrong.
-use Rattle.std.specs.Prelude.{◌≡◌, ℕ, suc, Bool, true, false, cond, List, Some, None, Option}
+use Rattle.std.specs.Prelude.{◌≡◌, ℕ, suc, true, false, List, Some, None, Option, Ok, Err, Result, is_ok}
+use Rattle.refusal.specs.declared.refusal.Refusal.{Refusal}
 use Rattle.diffusion.specs.Draft.{Setting}
-use Rattle.model.specs.Replays.{codes_in, replay_sweep, replay}
+use Rattle.model.specs.Replays.{codes_in, replay}
 use Rattle.job.specs.Coded.{EachCoded}
 
 -- the amounts, if all codes were right so far
-abbrev pub kept_if : {T : Type 0} → Bool → List T → Option (List T)
-kept_if right xs = cond right (Some xs) None
-
--- from the amounts xs after the places below k, the places up to n of rank r leave o
-abbrev pub RowWorked : {T : Type 0} → Setting T → List ℕ → ℕ → ℕ → ℕ → List T → Option (List T) → Type 0
-RowWorked {T} j cs r k n xs o = (start : Option (List T)) → replay_sweep j cs r start k ≡ Some xs → o ≡ replay_sweep j cs r start n
+abbrev pub kept_if : {T : Type 0} → Result (Unit {0}) Refusal → List T → Option (List T)
+kept_if (Ok u) xs = Some xs
+kept_if (Err e) xs = None
 
 -- the record's codes written into the code band, and the standing squares worked again from the drawing up to the rank top
-pub record Reworked {T : Type 0} (j : Setting T) (top : ℕ) (drawing : List T) (rec : List ℕ) (r : Bool) (codes : List ℕ) (amounts : List T) : Type 0 where
+pub record Reworked {T : Type 0} (j : Setting T) (top : ℕ) (drawing : List T) (rec : List ℕ) (r : Result (Unit {0}) Refusal) (codes : List ℕ) (amounts : List T) : Type 0 where
   -- all codes were right
-  pub each : r ≡ true → EachCoded j.squares.count rec
-  pub codes_are : r ≡ true → codes ≡ codes_in j.squares.count rec
-  pub amounts_are : r ≡ true → replay j (codes_in j.squares.count rec) (Some drawing) (suc top) ≡ Some amounts
+  pub each : is_ok r ≡ true → EachCoded j.squares.count rec
+  pub codes_are : is_ok r ≡ true → codes ≡ codes_in j.squares.count rec
+  pub amounts_are : is_ok r ≡ true → replay j (codes_in j.squares.count rec) (Some drawing) (suc top) ≡ Some amounts
   -- one was not
-  pub failed : r ≡ false → EachCoded j.squares.count rec → replay j (codes_in j.squares.count rec) (Some drawing) (suc top) ≡ None
+  pub failed : is_ok r ≡ false → EachCoded j.squares.count rec → replay j (codes_in j.squares.count rec) (Some drawing) (suc top) ≡ None

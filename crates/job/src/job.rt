@@ -13,6 +13,7 @@ mod lengths;
 mod losses;
 mod new;
 mod open;
+mod quantise;
 mod ready;
 mod replay;
 mod resume;

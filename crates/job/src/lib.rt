@@ -2,12 +2,15 @@
 #![tactic(auto)]
 
 mod beside;
-mod form;
+mod bit_map;
+mod code;
 mod job;
 mod kind;
 mod pattern;
 mod record;
+mod size_bytes;
 mod totals;
+mod writing;
 
 pub use job::{Job, open_bands};
 pub use totals::Totals;

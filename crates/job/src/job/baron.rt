@@ -4,8 +4,8 @@ ghost use Rattle.grid.specs.Squares.{Inside};
 ghost use Rattle.diffusion.specs.Neighbourhoods.{baron};
 ghost use Rattle.job.specs.Meaning.{squares_of};
 
+use crate::code::OPEN;
 use crate::job::Job;
-use crate::job::spread::OPEN;
 use grid::Square;
 use plan::Plan;
 use quantiser::Quantiser;

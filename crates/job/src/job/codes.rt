@@ -1,33 +1,33 @@
 // The codes of a record in a code band.
-ghost use Rattle.std.specs.Prelude.{◌≡◌, ◌+◌, ◌≤◌, true, length, Decides};
-ghost use Rattle.bits.specs.Bits.{bytes_for};
-ghost use Rattle.model.specs.Records.{stand_below};
+ghost use Rattle.std.specs.Prelude.{◌≡◌, ◌*◌, length, MatchResult};
+ghost use Rattle.refusal.specs.declared.refusal.Refusal.TheVariants.{WrongCode};
 ghost use Rattle.model.specs.Replays.{codes_in};
 ghost use Rattle.job.specs.Coded.{EachCoded};
 
-use crate::form::is_standing;
-use crate::job::spread::OPEN;
+use crate::code::OPEN;
+use crate::record::Record;
+use refusal::Refusal;
 
-// Writes a record's codes, and 255 for each square that does not stand; false at the first standing square with the code 255, which is no
+// Writes a record's codes, and 255 for each square that does not stand; 9 at the first standing square with the code 255, which is no
 // square's code.
-pub(crate) fn write_codes(saved: &[u8], codes: &mut [u8]) -> bool
-    requires bound { length codes.old ≤ 1048576 }
-    requires due { length saved.now ≡ 4 + bytes_for (length codes.old) + stand_below saved.now (length codes.old) }
-    ensures each { Decides result (EachCoded (length codes.old) saved.now) }
-    ensures written { result ≡ true → codes.new ≡ codes_in (length codes.old) saved.now }
+pub(crate) fn write_codes(saved: &Record, codes: &mut [u8]) -> Result<(), Refusal>
+    requires { length codes.old ≡ saved.now.bits.size.rows * saved.now.bits.size.columns }
+    ensures { MatchResult result
+        (λ _. EachCoded (length codes.old) saved.now.bits.bytes.now × (codes.new ≡ codes_in (length codes.old) saved.now.bits.bytes.now))
+        (λ e. (e ≡ WrongCode) × ¬ EachCoded (length codes.old) saved.now.bits.bytes.now) }
 {
-    let mut next = 4 + (codes.len() + 7) / 8;
-    for place in 0..codes.len() {
-        if is_standing(saved, place) {
-            let code = saved[next];
-            if code == OPEN {
-                return false;
+    let mut given = saved.codes().iter();
+    for (place, code) in codes.iter_mut().enumerate() {
+        if saved.is_standing(place) {
+            // There are as many codes as squares that stand.
+            let next = *given.next().unwrap();
+            if next == OPEN {
+                return Err(Refusal::WrongCode);
             }
-            codes[place] = code;
-            next += 1;
+            *code = next;
         } else {
-            codes[place] = OPEN;
+            *code = OPEN;
         }
     }
-    true
+    Ok(())
 }

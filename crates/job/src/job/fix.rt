@@ -9,14 +9,13 @@ ghost use Rattle.job.specs.Patterns.{PatternOf};
 ghost use Rattle.job.specs.Progress.{progress, taken};
 ghost use Rattle.job.specs.Single.{attempt};
 
+use crate::code::OPEN;
 use crate::job::Job;
-use crate::job::spread::OPEN;
 use crate::pattern::Pattern;
 use grid::Square;
 use plan::Plan;
 use quantiser::Quantiser;
 use refusal::Refusal;
-use tone::Tone;
 
 impl<P: Plan, Q: Quantiser> Job<P, Q> {
     // Fixes the square at a place, whose pattern is told, if it is open, and answers how many were fixed: 1 or 0. Its neighbours are not asked:
@@ -37,12 +36,7 @@ impl<P: Plan, Q: Quantiser> Job<P, Q> {
         if codes[place] != OPEN {
             return 0;
         }
-        let amount = amounts[place];
-        let code = self.quantiser.choose(amount);
-        let error = amount.difference(self.quantiser.output(code));
-        codes[place] = code;
-        amounts[place] = error;
-        self.spread(amounts, place, pattern, error);
+        codes[place] = self.quantise(amounts, place, pattern);
         1
     }
 

@@ -5,8 +5,10 @@ ghost use Rattle.model.specs.Steps.{halt_on};
 ghost use Rattle.job.specs.Answers.{counted};
 ghost use Rattle.job.specs.Meaning.{meant, band};
 
+use crate::bit_map::codes_start;
 use crate::job::Job;
-use crate::record::{count_fixed, put_codes, put_size};
+use crate::size_bytes::size_bytes;
+use crate::writing::{count_fixed, put_codes};
 use bits::{Fixed, pack_row};
 use plan::Plan;
 use quantiser::Quantiser;
@@ -26,12 +28,12 @@ impl<P: Plan, Q: Quantiser> Job<P, Q> {
         if !self.lengths_match(drawing, amounts, codes) {
             return Err(Refusal::BandLength);
         }
-        let start = 4 + (codes.len() + 7) / 8;
+        let start = codes_start(codes.len());
         let total = start + count_fixed(codes);
         if out.len() < total {
             return Err(Refusal::OutputTooShort);
         }
-        put_size(&self.size, &mut out[0..4]);
+        out[..4].copy_from_slice(&size_bytes(&self.size));
         pack_row::<Fixed>(codes, &mut out[4..start]);
         put_codes(codes, &mut out[start..total]);
         Ok(total)

@@ -4,8 +4,8 @@ ghost use Rattle.model.specs.Openings.{open_refusal, unless, opened_on};
 ghost use Rattle.job.specs.Answers.{refused};
 ghost use Rattle.job.specs.Meaning.{band};
 
+use crate::code::OPEN;
 use crate::job::Job;
-use crate::job::spread::OPEN;
 use grid::Size;
 use plan::Plan;
 use quantiser::Quantiser;

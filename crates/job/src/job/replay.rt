@@ -1,109 +1,66 @@
 // The squares that stand in a code band, worked again from the drawing: rank by rank, and each rank in reading order.
-ghost use Rattle.std.specs.Prelude.{◌≡◌, suc, ◌+◌, ◌*◌, ◌<◌, true, length};
-ghost use Rattle.model.specs.Replays.{replay_at, replay_visit, replay_sweep, replay};
-ghost use Rattle.job.specs.Meaning.{squares_of, setting_by};
-ghost use Rattle.job.specs.Patterns.{PatternOf};
-ghost use Rattle.job.specs.Worked.{kept_if, RowWorked};
+ghost use Rattle.std.specs.Prelude.{◌≡◌, suc, ◌*◌, length, Some};
+ghost use Rattle.grid.specs.Squares.{Inside};
+ghost use Rattle.model.specs.Replays.{replay_visit, replay_sweep, replay};
+ghost use Rattle.job.specs.Meaning.{setting_by};
+ghost use Rattle.job.specs.Worked.{kept_if};
 
+use crate::code::OPEN;
 use crate::job::Job;
-use crate::job::spread::OPEN;
-use crate::pattern::Pattern;
 use grid::Square;
 use plan::Plan;
 use quantiser::Quantiser;
-use tone::Tone;
+use refusal::Refusal;
 
 impl<P: Plan, Q: Quantiser> Job<P, Q> {
-    // Works the square at a place, whose pattern is told; false, and nothing changed, where another code is chosen than the one written.
-    fn replay_place(
-        &self,
-        amounts: &mut [Q::Tone],
-        codes: &[u8],
-        place: usize,
-        pattern: &Pattern,
-    ) -> bool
-        requires amounts { length amounts.old ≡ self.now.size.rows * self.now.size.columns }
-        requires codes { length codes.now ≡ self.now.size.rows * self.now.size.columns }
-        requires pattern { PatternOf (squares_of P.Plan.meaning self.now) place pattern.now }
-        ensures { kept_if result amounts.new ≡ replay_at (setting_by Q.Tone.Tone.algebra P.Plan.meaning Q.Quantiser.tables self.now) codes.now place amounts.old }
-    {
-        let amount = amounts[place];
-        let code = self.quantiser.choose(amount);
-        if code != codes[place] {
-            return false;
-        }
-        let error = amount.difference(self.quantiser.output(code));
-        amounts[place] = error;
-        self.spread(amounts, place, pattern, error);
-        true
-    }
-
-    // Works the square at a row and a column if it stands and has the rank whose turn it is.
+    // Works a square if it stands and has the rank whose turn it is; 9 where another code is chosen than the one written.
     fn replay_square(
         &self,
         amounts: &mut [Q::Tone],
         codes: &[u8],
-        row: usize,
-        column: usize,
+        square: Square,
         rank: u8,
-    ) -> bool
-        requires row { row < self.now.size.rows }
-        requires column { column < self.now.size.columns }
+    ) -> Result<(), Refusal>
+        requires square { Inside self.now.size square }
         requires amounts { length amounts.old ≡ self.now.size.rows * self.now.size.columns }
         requires codes { length codes.now ≡ self.now.size.rows * self.now.size.columns }
-        ensures { kept_if result amounts.new ≡ replay_visit (setting_by Q.Tone.Tone.algebra P.Plan.meaning Q.Quantiser.tables self.now) codes.now rank (row * self.now.size.columns + column) (kept_if true amounts.old) }
+        ensures { kept_if result amounts.new ≡ replay_visit (setting_by Q.Tone.Tone.algebra P.Plan.meaning Q.Quantiser.tables self.now) codes.now rank square.place (Some amounts.old) }
     {
-        let place = row * self.size.columns + column;
-        if codes[place] == OPEN {
-            return true;
+        let written = codes[square.place];
+        if written == OPEN {
+            return Ok(());
         }
-        if self.plan.rank(row, column) != rank {
-            return true;
+        if self.plan.rank(square.row, square.column) != rank {
+            return Ok(());
         }
-        let pattern = self.pattern(Square { row, column, place });
-        self.replay_place(amounts, codes, place, &pattern)
-    }
-
-    // Works the squares of a rank in one row.
-    fn replay_row(&self, amounts: &mut [Q::Tone], codes: &[u8], row: usize, rank: u8) -> bool
-        requires row { row < self.now.size.rows }
-        requires amounts { length amounts.old ≡ self.now.size.rows * self.now.size.columns }
-        requires codes { length codes.now ≡ self.now.size.rows * self.now.size.columns }
-        ensures { RowWorked (setting_by Q.Tone.Tone.algebra P.Plan.meaning Q.Quantiser.tables self.now) codes.now rank (row * self.now.size.columns) ((row + 1) * self.now.size.columns) amounts.old (kept_if result amounts.new) }
-    {
-        for column in 0..self.size.columns {
-            if !self.replay_square(amounts, codes, row, column, rank) {
-                return false;
-            }
+        let pattern = self.pattern(square);
+        if self.quantise(amounts, square.place, &pattern) != written {
+            return Err(Refusal::WrongCode);
         }
-        true
+        Ok(())
     }
 
     // Works the squares of a rank.
-    fn replay_rank(&self, amounts: &mut [Q::Tone], codes: &[u8], rank: u8) -> bool
+    fn replay_rank(&self, amounts: &mut [Q::Tone], codes: &[u8], rank: u8) -> Result<(), Refusal>
         requires amounts { length amounts.old ≡ self.now.size.rows * self.now.size.columns }
         requires codes { length codes.now ≡ self.now.size.rows * self.now.size.columns }
-        ensures { kept_if result amounts.new ≡ replay_sweep (setting_by Q.Tone.Tone.algebra P.Plan.meaning Q.Quantiser.tables self.now) codes.now rank (kept_if true amounts.old) (self.now.size.rows * self.now.size.columns) }
+        ensures { kept_if result amounts.new ≡ replay_sweep (setting_by Q.Tone.Tone.algebra P.Plan.meaning Q.Quantiser.tables self.now) codes.now rank (Some amounts.old) (self.now.size.rows * self.now.size.columns) }
     {
-        for row in 0..self.size.rows {
-            if !self.replay_row(amounts, codes, row, rank) {
-                return false;
-            }
+        for square in self.size.in_reading_order() {
+            self.replay_square(amounts, codes, square, rank)?;
         }
-        true
+        Ok(())
     }
 
-    // Works all squares that stand; false at the first code that is not the one written, and the amounts are then of no use.
-    pub(crate) fn replay(&self, amounts: &mut [Q::Tone], codes: &[u8]) -> bool
+    // Works all squares that stand; 9 at the first code that is not the one written, and the amounts are then of no use.
+    pub(crate) fn replay(&self, amounts: &mut [Q::Tone], codes: &[u8]) -> Result<(), Refusal>
         requires amounts { length amounts.old ≡ self.now.size.rows * self.now.size.columns }
         requires codes { length codes.now ≡ self.now.size.rows * self.now.size.columns }
-        ensures { kept_if result amounts.new ≡ replay (setting_by Q.Tone.Tone.algebra P.Plan.meaning Q.Quantiser.tables self.now) codes.now (kept_if true amounts.old) (suc (P.Plan.meaning self.now.plan).top) }
+        ensures { kept_if result amounts.new ≡ replay (setting_by Q.Tone.Tone.algebra P.Plan.meaning Q.Quantiser.tables self.now) codes.now (Some amounts.old) (suc (P.Plan.meaning self.now.plan).top) }
     {
         for rank in 0..=self.plan.top() {
-            if !self.replay_rank(amounts, codes, rank) {
-                return false;
-            }
+            self.replay_rank(amounts, codes, rank)?;
         }
-        true
+        Ok(())
     }
 }

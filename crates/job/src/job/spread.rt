@@ -7,6 +7,7 @@ ghost use Rattle.job.specs.Meaning.{squares_of};
 ghost use Rattle.job.specs.Patterns.{PatternOf};
 
 use crate::beside::place_beside;
+use crate::code::OPEN;
 use crate::job::Job;
 use crate::kind::Kind;
 use crate::pattern::Pattern;
@@ -14,9 +15,6 @@ use grid::Direction;
 use plan::Plan;
 use quantiser::Quantiser;
 use tone::Tone;
-
-// The code of an open square.
-pub const OPEN: u8 = 255;
 
 // The part for a direction with a higher neighbour: what is left for the last, and else the share of a side or of a corner.
 fn part_for<T: Tone>(direction: Direction, last: Direction, left: T, side: T, corner: T) -> T

@@ -6,8 +6,8 @@ ghost use Rattle.job.specs.Answers.{totalled};
 ghost use Rattle.job.specs.Meaning.{squares_of, meant, band};
 ghost use Rattle.job.specs.Shown.{output_at, loss_at, open_at};
 
+use crate::code::OPEN;
 use crate::job::Job;
-use crate::job::spread::OPEN;
 use crate::totals::Totals;
 use plan::Plan;
 use quantiser::Quantiser;

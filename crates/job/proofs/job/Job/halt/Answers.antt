@@ -34,15 +34,15 @@ returns g c =
     let is : fits p b ≡ true = sym c.lengths_match.ensures ∙ c.if-not-lengths_match.false in
     let long = length_record rows columns codes in
     let count = c.count_fixed.ensures.value in
-    let start = 4 + bytes_for (length codes) in
+    let start = c.codes_start-start.result in
     let total = start + c.count_fixed.result in
-    let ds = c.put_size.ensures in
+    let ds = c.copy_from_slice.ensures.after ∙ c.size_bytes.ensures in
     let bs = c.pack_row.ensures in
     let cs = c.put_codes.ensures in
-    let lent = part_long out c.put_size.new.out 4 (start - 4) (bytes_for (length codes)) (ap length ds) (omega arith) (omega arith) in
+    let lent = part_long out c.copy_from_slice.new.self 4 (start - 4) (bytes_for (length codes)) (ap length ds) (omega arith) (omega arith) in
     let full : c.pack_row.new.out ≡ bit_map codes = bs ∙ ap (λ n. packed fixed n codes) lent in
     let map_long : length c.pack_row.new.out ≡ bytes_for (length codes) = ap length full ∙ length-packed fixed (bytes_for (length codes)) codes in
     write_whole (fits p b) is (record_of rows columns codes) out (wrote (Refused 2) out) total _ (omega (arith, long, count)) (omega arith)
-    (three_parts out c.put_size.new.out c.pack_row.new.out c.put_codes.new.out 4 start total (4 - 0) (start - 4) (total - start)
+    (three_parts out c.copy_from_slice.new.self c.pack_row.new.out c.put_codes.new.out 4 start total (4 - 0) (start - 4) (total - start)
     (ap length ds) (omega arith) (omega (arith, map_long)) (omega (arith, map_long)) (omega (arith, ap length cs, count)) (omega (arith, ap length cs, count)) (omega arith)
     ∙ same_parts (drop total out) ds full cs)

@@ -1,34 +1,23 @@
-use Rattle.std.proofs.Common.{◌≡◌, suc, ◌+◌, ◌≤◌, Some, None, sym, ap, ◌∙◌, arith}
-use Rattle.model.specs.Replays.{replay}
+use Rattle.std.proofs.Common.{◌≡◌, suc, ◌+◌, ◌≤◌, None, ◌∙◌, arith}
 use Rattle.model.proofs.OneMore.{replay-none}
-use Rattle.job.specs.Meaning.{setting_by}
-use Rattle.job.proofs.Working.{rank_again, rank_failed}
+use Rattle.job.proofs.Working.{kept_none, rank_again, rank_failed}
 use Rattle.job.proofs.job.Job.replay.Goals as goal
 
 pub loop-rank-init : goal.loop-rank-init
-loop-rank-init g c =
-    let j = setting_by g.Q.Tone.Tone.algebra g.P.Plan.meaning g.Q.Quantiser.tables c.args.self.now in
-    sym (replay-none j c.args.codes.now (Some c.args.amounts.now))
+loop-rank-init g c = rw replay-none
 
 pub loop-rank-preserved : goal.loop-rank-preserved
-loop-rank-preserved g c =
-    let j = setting_by g.Q.Tone.Tone.algebra g.P.Plan.meaning g.Q.Quantiser.tables c.args.self.now in
-    rank_again j c.args.codes.now (Some c.args.amounts.now) c.loop-rank.rank c.loop-rank.amounts (Some c.replay_rank.new.amounts) c.loop-rank.invariant c.if-not-replay_rank.ensures
+loop-rank-preserved g c = rank_again _ _ _ _ _ _ c.loop-rank.invariant c.in_ok-replay_rank.ensures
 
-pub returns-then-not-replay_rank : goal.returns-then-not-replay_rank
-returns-then-not-replay_rank g c =
-    let j = setting_by g.Q.Tone.Tone.algebra g.P.Plan.meaning g.Q.Quantiser.tables c.args.self.now in
+pub returns-in_err-replay_rank : goal.returns-in_err-replay_rank
+returns-in_err-replay_rank g c =
     let top = (g.P.Plan.meaning c.args.self.now.plan).top in
-    let start = Some c.args.amounts.now in
     let below : c.loop-rank.rank + 1 ≤ suc top = omega (arith, c.top-rank-end.ensures) in
-    rank_failed j c.args.codes.now start (c.loop-rank.rank + 1) (suc top) below
-    (rank_again j c.args.codes.now start c.loop-rank.rank c.loop-rank.amounts None c.loop-rank.invariant c.if-not-replay_rank.ensures)
+    kept_none c.from_residual.result _ c.from_residual.ensures.0
+    ∙ rank_failed _ _ _ _ _ below (rank_again _ _ _ _ _ None c.loop-rank.invariant c.in_err-replay_rank.ensures)
 
-pub returns-else-not-replay_rank : goal.returns-else-not-replay_rank
-returns-else-not-replay_rank g c =
-    let j = setting_by g.Q.Tone.Tone.algebra g.P.Plan.meaning g.Q.Quantiser.tables c.args.self.now in
+pub returns-in_ok-replay_rank : goal.returns-in_ok-replay_rank
+returns-in_ok-replay_rank g c =
     let top = (g.P.Plan.meaning c.args.self.now.plan).top in
-    let start = Some c.args.amounts.now in
     let all : c.loop-rank.rank + 1 ≡ suc top = omega (arith, c.top-rank-end.ensures) in
-    rank_again j c.args.codes.now start c.loop-rank.rank c.loop-rank.amounts (Some c.replay_rank.new.amounts) c.loop-rank.invariant c.if-not-replay_rank.ensures
-    ∙ ap (replay j c.args.codes.now start) all
+    rw (← all) (rank_again _ _ _ _ _ _ c.loop-rank.invariant c.in_ok-replay_rank.ensures)
