@@ -1,10 +1,10 @@
 // A plan whose ranks the caller supplies.
-ghost use Rattle.std.specs.Prelude.{◌≡◌, ℕ, ◌<◌, ◌≤◌, [], ◌∷◌, length, Decides, MatchResult, slice_index};
+ghost use Rattle.std.specs.Prelude.{◌≡◌, ℕ, ◌<◌, ◌≤◌, [], ◌∷◌, length, MatchResult, slice_index};
 ghost use Rattle.refusal.specs.Numbers.{number_of};
 ghost use Rattle.plan.specs.Table.{tabled, table_plan, Sized, Clash, Refused, Taken};
 ghost use Rattle.plan.specs.TableLaws.{table_lawful};
 
-use crate::apart::{is_apart, rank_in};
+use crate::matrix::Matrix;
 use crate::plan::Plan;
 use refusal::Refusal;
 
@@ -20,14 +20,15 @@ pub struct Table {
     ghost apart: { Clash (tabled rows columns ranks) → ⊥ },
 }
 
-// Whether the periods are 2 to 16 and there are as many bytes as squares.
-fn is_sized(rows: usize, columns: usize, count: usize) -> bool
-    ensures { Decides result (Sized rows columns count) }
+// Whether the bytes can be a table's ranks.
+fn check(rows: usize, columns: usize, bytes: &[u8]) -> Result<(), Refusal>
+    ensures { MatchResult result (λ _. Sized rows columns (length bytes.now) × (Clash (tabled rows columns bytes.now) → ⊥)) (λ e. Refused rows columns bytes.now (number_of e)) }
 {
-    if rows < 2 || rows > 16 || columns < 2 || columns > 16 {
-        return false;
+    if Matrix::new(rows, columns, bytes)?.is_apart() {
+        Ok(())
+    } else {
+        Err(Refusal::TouchingEqualRanks)
     }
-    count == rows * columns
 }
 
 // The bytes, and zeros after them.
@@ -36,9 +37,7 @@ fn padded(bytes: &[u8]) -> [u8; 256]
     ensures { (k : ℕ) → k < length bytes.now → slice_index result k ≡ slice_index bytes.now k }
 {
     let mut ranks = [0; 256];
-    for i in 0..bytes.len() {
-        ranks[i] = bytes[i];
-    }
+    ranks[..bytes.len()].copy_from_slice(bytes);
     ranks
 }
 
@@ -60,12 +59,7 @@ impl Table {
     pub fn write(&mut self, rows: usize, columns: usize, bytes: &[u8]) -> Result<(), Refusal>
         ensures { MatchResult result (λ _. Taken rows columns bytes.now (table_plan self.new.rows self.new.columns self.new.ranks)) (λ e. Refused rows columns bytes.now (number_of e) × (self.new ≡ self.old)) }
     {
-        if !is_sized(rows, columns, bytes.len()) {
-            return Err(Refusal::OutsideLimits);
-        }
-        if !is_apart(rows, columns, bytes) {
-            return Err(Refusal::TouchingEqualRanks);
-        }
+        check(rows, columns, bytes)?;
         let ranks = padded(bytes);
         *self = Table {
             rows,
@@ -73,6 +67,19 @@ impl Table {
             ranks,
         };
         Ok(())
+    }
+
+    // Its ranks, to be read.
+    fn matrix(&self) -> Matrix<'_>
+        ensures rows { result.rows ≡ self.now.rows }
+        ensures columns { result.columns ≡ self.now.columns }
+        ensures ranks { result.ranks.now ≡ self.now.ranks }
+    {
+        Matrix {
+            rows: self.rows,
+            columns: self.columns,
+            ranks: &self.ranks,
+        }
     }
 }
 
@@ -94,6 +101,6 @@ impl Plan for Table {
     }
 
     fn rank(&self, row: usize, column: usize) -> u8 {
-        rank_in(self.rows, self.columns, &self.ranks, row, column)
+        self.matrix().rank(row, column)
     }
 }

@@ -1,5 +1,5 @@
 // One row of a sheet.
-ghost use Rattle.std.specs.Prelude.{◌≤◌, ◌≡◌, length};
+ghost use Rattle.std.specs.Prelude.{◌≤◌, ◌≡◌, length, take};
 
 // The first `count` ranks are the row's; those behind are 0.
 #[derive(Clone, Copy)]
@@ -8,4 +8,13 @@ pub struct SheetRow {
     pub count: usize,
     ghost full: { length ranks ≡ 16 },
     ghost few: { count ≤ 16 },
+}
+
+impl SheetRow {
+    // The row's ranks alone.
+    pub fn ranks(&self) -> &[u8]
+        ensures { result.now ≡ take self.now.count self.now.ranks }
+    {
+        &self.ranks[..self.count]
+    }
 }
