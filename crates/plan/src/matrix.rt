@@ -45,7 +45,6 @@ impl<'a> Matrix<'a> {
     }
 
     // Whether the ranks differ between a square and those to its east, south and south-east, and between the east and the south.
-    #[tactic(auto, using(crate::specs::Blocks::block_cases))]
     fn is_block_apart(&self, row: usize, column: usize) -> bool
         requires row { row < self.now.rows }
         requires column { column < self.now.columns }

@@ -1,6 +1,7 @@
 // A plan whose ranks the caller supplies.
 ghost use Rattle.std.specs.Prelude.{◌≡◌, ℕ, ◌<◌, ◌≤◌, [], ◌∷◌, length, MatchResult, slice_index};
 ghost use Rattle.refusal.specs.Numbers.{number_of};
+ghost use Rattle.plan.specs.Ranks.{Period};
 ghost use Rattle.plan.specs.Table.{tabled, table_plan, Sized, Clash, Refused, Taken};
 ghost use Rattle.plan.specs.TableLaws.{table_lawful};
 
@@ -14,8 +15,8 @@ pub struct Table {
     rows: usize,
     columns: usize,
     ranks: [u8; 256],
-    ghost height: { (2 ≤ rows) × (rows ≤ 16) },
-    ghost width: { (2 ≤ columns) × (columns ≤ 16) },
+    ghost height: { Period rows },
+    ghost width: { Period columns },
     ghost bytes: { ((r c : ℕ) → tabled rows columns ranks r c ≤ 255) },
     ghost apart: { Clash (tabled rows columns ranks) → ⊥ },
 }
@@ -86,7 +87,7 @@ impl Table {
 impl Plan for Table {
     ghost meaning = { λ t. table_plan t.rows t.columns t.ranks };
 
-    ghost lawful = { λ t. table_lawful t.rows t.columns t.ranks (record { least = t.height.0; most = t.height.1 }) (record { least = t.width.0; most = t.width.1 }) t.bytes t.apart };
+    ghost lawful = { λ t. table_lawful t.rows t.columns t.ranks t.height t.width t.bytes t.apart };
 
     fn row_period(&self) -> usize {
         self.rows
