@@ -4,6 +4,7 @@ ghost use Rattle.pile.specs.LaidLaws.{any_lawful};
 
 use plan::{Layer, Mirror, Plan, Reverse, Shift, Turn};
 
+// One of the four, with what it needs.
 #[derive(Clone, Copy)]
 pub enum AnyLayer {
     Shift { rows: u8, columns: u8 },

@@ -7,6 +7,7 @@ ghost use Rattle.pile.specs.declared.base.Base.TheVariants.{Knuth, Doubling, Tab
 
 use plan::{Doubling, Knuth, Plan, Table};
 
+// Named variants say which plan it is where `Either` in `Either` would not.
 #[derive(Clone, Copy)]
 pub enum Base {
     Knuth,

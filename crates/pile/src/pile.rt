@@ -12,7 +12,7 @@ type Laid<P> = Layered<P, Option<AnyLayer>>;
 // Five layers, each of which may be missing.
 pub type Pile = Laid<Laid<Laid<Laid<Laid<Base>>>>>;
 
-// The plan with the layers over it, the first of them lowest.
+// The plan with the layers over it, the first of them lowest. Each layer makes another type, so that no loop lays them.
 pub fn piled(base: Base, layers: [Option<AnyLayer>; 5]) -> Pile
     ensures { ⟦<Pile as Plan>⟧.meaning result ≡ laid (nth layers 4) (laid (nth layers 3) (laid (nth layers 2) (laid (nth layers 1) (laid (nth layers 0) (base_ranks base))))) }
 {

@@ -4,6 +4,7 @@ ghost use Rattle.plan.specs.Ranks.{Ranks, Lawful};
 
 use crate::plan::Plan;
 
+// The trait asks what `Plan` asks, of a layer and the plan below together.
 pub trait Layer {
     // What the layer makes of the plan below.
     ghost over: { Self → Ranks → Ranks };

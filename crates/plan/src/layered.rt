@@ -4,6 +4,7 @@ ghost use Rattle.std.specs.Prelude.{◌≡◌};
 use crate::layer::Layer;
 use crate::plan::Plan;
 
+// The plan below, which may have layers itself, and the layer.
 #[derive(Clone, Copy)]
 pub struct Layered<P, L> {
     below: P,
@@ -11,6 +12,7 @@ pub struct Layered<P, L> {
 }
 
 impl<P, L> Layered<P, L> {
+    // Lays the layer over the plan.
     pub fn new(below: P, layer: L) -> Layered<P, L>
         ensures below { result.below ≡ below }
         ensures layer { result.layer ≡ layer }

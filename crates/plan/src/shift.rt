@@ -15,6 +15,7 @@ fn further(x: usize, by: u8, period: usize) -> usize
     (x % period + by as usize) % period
 }
 
+// How many rows and how many columns.
 #[derive(Clone, Copy)]
 pub struct Shift {
     rows: u8,

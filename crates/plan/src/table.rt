@@ -9,7 +9,8 @@ use crate::matrix::Matrix;
 use crate::plan::Plan;
 use refusal::Refusal;
 
-// The first rows × columns bytes are the ranks of one period, row by row; the others are not read.
+// The first rows × columns bytes are the ranks of one period, row by row; the others are not read. A table is held without a heap, so it has
+// an array with room for the largest period and no Vec.
 #[derive(Clone, Copy)]
 pub struct Table {
     rows: usize,

@@ -37,6 +37,7 @@ fn byte_in(heap: Global, word: &str) -> Result<u8, Fault> {
 }
 
 impl<'a> Words<'a> {
+    // All of the words.
     pub(crate) fn new(heap: Global, words: &'a [String]) -> Words<'a> {
         Words {
             heap,

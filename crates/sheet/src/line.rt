@@ -1,7 +1,7 @@
 // One row of a sheet.
 ghost use Rattle.std.specs.Prelude.{◌≤◌, ◌≡◌, length, take};
 
-// The first `count` ranks are the row's; those behind are 0.
+// The first `count` ranks are the row's; those behind are 0. A row is made and copied without a heap, so it has an array and no Vec.
 #[derive(Clone, Copy)]
 pub struct SheetRow {
     pub ranks: [u8; 16],

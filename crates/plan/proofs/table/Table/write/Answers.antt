@@ -12,8 +12,8 @@ invariant_of-self c =
     let sized : Sized p q (length bytes) = c.in_ok-check.ensures.0 in
     let alike = tabled_alike p q bytes ranks sized c.padded-ranks.ensures in
     record {
-      height = sized.row_period;
-      width = sized.column_period;
+      height = omega arith;
+      width = omega arith;
       bytes = λ i j. omega (arith, alike i j, c.type_inv.bytes ((i % p) * q + j % q));
       apart = λ clash. c.in_ok-check.ensures.1 (clash_alike (tabled p q ranks) (tabled p q bytes) alike clash);
     }
