@@ -1,5 +1,5 @@
 // Ranks, layers and tables.
-use plan::{Doubling, Knuth, Mirror, Plan, Reverse, Shift, Table, Turn};
+use plan::{Doubling, Knuth, Layered, Mirror, Plan, Reverse, Shift, Table, Turn};
 use refusal::Refusal;
 use std::test::Fail;
 
@@ -26,7 +26,7 @@ fn doubling_is_worked_out_from_below(rt: HostRuntime) -> Result<(), Fail> {
 
 #[test]
 fn reverse_of_order_one(rt: HostRuntime) -> Result<(), Fail> {
-    let plan = Reverse::new(Doubling::new(1)?);
+    let plan = Layered::new(Doubling::new(1)?, Reverse);
     assert_eq!(rt; plan.rank(0, 0), 3);
     assert_eq!(rt; plan.rank(0, 1), 1);
     assert_eq!(rt; plan.rank(1, 0), 0);
@@ -36,14 +36,14 @@ fn reverse_of_order_one(rt: HostRuntime) -> Result<(), Fail> {
 
 #[test]
 fn layers_read_the_plan_below(rt: HostRuntime) {
-    assert_eq!(rt; Shift::new(Knuth, 3, 200).rank(3, 5), 63);
-    assert_eq!(rt;
-        Shift::new(Knuth, 255, 255).rank(usize::MAX, usize::MAX),
-        60
-    );
-    assert_eq!(rt; Mirror::new(Knuth).rank(6, 2), 63);
-    assert_eq!(rt; Turn::new(Knuth).rank(5, 6), 63);
-    assert_eq!(rt; Reverse::new(Mirror::new(Knuth)).rank(6, 2), 0);
+    let shifted = Layered::new(Knuth, Shift::new(3, 200));
+    assert_eq!(rt; shifted.rank(3, 5), 63);
+    let far = Layered::new(Knuth, Shift::new(255, 255));
+    assert_eq!(rt; far.rank(usize::MAX, usize::MAX), 60);
+    let mirrored = Layered::new(Knuth, Mirror);
+    assert_eq!(rt; mirrored.rank(6, 2), 63);
+    assert_eq!(rt; Layered::new(Knuth, Turn).rank(5, 6), 63);
+    assert_eq!(rt; Layered::new(mirrored, Reverse).rank(6, 2), 0);
 }
 
 #[test]

@@ -1,13 +1,12 @@
 -- Whichever layer stands over a lawful plan, the two are a lawful plan.
 use Rattle.plan.specs.Ranks.{Ranks, Lawful}
 use Rattle.plan.specs.LayerLaws.{shifted_lawful, mirrored_lawful, turned_lawful, reversed_lawful}
-use Rattle.pile.specs.Piles.{laid}
-use Rattle.pile.specs.declared.layer.Layer.{Layer}
-use Rattle.pile.specs.declared.layer.Layer.TheVariants.{Plain, Shift, Mirror, Turn, Reverse}
+use Rattle.pile.specs.Piles.{any_layer}
+use Rattle.pile.specs.declared.any_layer.AnyLayer.{AnyLayer}
+use Rattle.pile.specs.declared.any_layer.AnyLayer.TheVariants.{Shift, Mirror, Turn, Reverse}
 
-pub laid_lawful : (l : Layer) (m : Ranks) → Lawful m → Lawful (laid l m)
-laid_lawful Plain m law = law
-laid_lawful (Shift a b) m law = shifted_lawful m a b law
-laid_lawful Mirror m law = mirrored_lawful m law
-laid_lawful Turn m law = turned_lawful m law
-laid_lawful Reverse m law = reversed_lawful m law
+pub any_lawful : (l : AnyLayer) (m : Ranks) → Lawful m → Lawful (any_layer l m)
+any_lawful (Shift a b) m law = shifted_lawful m a b law
+any_lawful Mirror m law = mirrored_lawful m law
+any_lawful Turn m law = turned_lawful m law
+any_lawful Reverse m law = reversed_lawful m law

@@ -1,10 +1,10 @@
 // Piles: a plan and up to five layers over it, chosen at run time.
 #![tactic(auto)]
 
-mod layer;
-mod layered;
+mod any_layer;
+mod base;
 mod pile;
 
-pub use layer::Layer;
-pub use layered::Layered;
-pub use pile::{Base, Pile, piled};
+pub use any_layer::AnyLayer;
+pub use base::Base;
+pub use pile::{Pile, piled};

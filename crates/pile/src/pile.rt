@@ -1,20 +1,20 @@
 // A pile of layers over one of the plans.
 ghost use Rattle.std.specs.Prelude.{◌≡◌};
-ghost use Rattle.pile.specs.Piles.{laid, nth, base_ranks, pile_ranks};
+ghost use Rattle.pile.specs.Piles.{laid, nth, base_ranks};
 
-use crate::layer::Layer;
-use crate::layered::Layered;
-use plan::{Doubling, Either, Knuth, Table};
+use crate::any_layer::AnyLayer;
+use crate::base::Base;
+use plan::{Layered, Plan};
 
-// The plans that a pile can stand on.
-pub type Base = Either<Knuth, Either<Doubling, Table>>;
+// A plan with a layer over it, or none.
+type Laid<P> = Layered<P, Option<AnyLayer>>;
 
-// Five layers, each of which may be plain.
-pub type Pile = Layered<Layered<Layered<Layered<Layered<Base>>>>>;
+// Five layers, each of which may be missing.
+pub type Pile = Laid<Laid<Laid<Laid<Laid<Base>>>>>;
 
-// The plan with the layers over it, the first of them lowest.
-pub fn piled(base: Base, layers: [Layer; 5]) -> Pile
-    ensures { pile_ranks result ≡ laid (nth layers 4) (laid (nth layers 3) (laid (nth layers 2) (laid (nth layers 1) (laid (nth layers 0) (base_ranks base))))) }
+// The plan with the layers over it, the first of them lowest. Each layer makes another type, so that no loop lays them.
+pub fn piled(base: Base, layers: [Option<AnyLayer>; 5]) -> Pile
+    ensures { ⟦<Pile as Plan>⟧.meaning result ≡ laid (nth layers 4) (laid (nth layers 3) (laid (nth layers 2) (laid (nth layers 1) (laid (nth layers 0) (base_ranks base))))) }
 {
     let one = Layered::new(base, layers[0]);
     let two = Layered::new(one, layers[1]);

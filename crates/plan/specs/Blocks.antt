@@ -1,6 +1,6 @@
 -- Ranks that repeat are apart everywhere if they are apart at the squares of one period, each towards the east and the south.
 --
-use Rattle.std.specs.Prelude.{◌≡◌, ℕ, zero, suc, ◌+◌, ◌%◌, ◌<◌, ◌≤◌, Bool, true, false, not, ◌&&◌, ◌⊎◌, Decides, ◌==◌, refl}
+use Rattle.std.specs.Prelude.{◌≡◌, ℕ, zero, suc, ◌+◌, ◌%◌, ◌<◌, ◌≤◌, Bool, true, false, not, ◌&&◌, ◌⊎◌, Decides, MatchBool, ◌==◌, refl}
 use Rattle.std.proofs.Common.{sym, ap₂, ◌∙◌, ⊎_elim, mod-lt, arith}
 use Rattle.std.proofs.Math.Nat.{mod-mod, mod-add-mod}
 use Rattle.std.proofs.lemmas.Bool.Decides.{Decides-eqb, Decides-not, Decides-and, Decides-like, Decides-below_and}
@@ -104,6 +104,10 @@ module _ (rank : ℕ → ℕ → ℕ) where
         touch = touch;
         equal = eqb-true (rank r c) (rank r' c') (not-false (rank r c == rank r' c') e);
       }
+
+  pub block_cases : (r c : ℕ) (b : Bool) → b ≡ block_apart rank r c → MatchBool b (BlockApart rank r c) (Clash rank)
+  block_cases r c true e = (decides_block r c).0 (sym e)
+  block_cases r c false e = clash_in_block r c (sym e)
 
   pub clash_breaks : Apart rank → Clash rank → ⊥
   clash_breaks apart k = apart k.row k.column k.other_row k.other_column k.touch k.equal

@@ -1,5 +1,5 @@
 -- What each layer makes of the plan below.
-use Rattle.std.specs.Prelude.{ℕ, ◌+◌, ◌-◌, ◌%◌}
+use Rattle.std.specs.Prelude.{ℕ, ◌+◌, ◌-◌, ◌%◌, Option, None, Some}
 use Rattle.plan.specs.Ranks.{Ranks}
 
 -- the same plan, read at other rows and columns
@@ -46,3 +46,8 @@ reversed m = record {
   top = m.top;
   rank = λ r c. m.top - m.rank r c;
 }
+
+-- what a layer makes of the plan, where there is one
+abbrev pub optional : {L : Type 0} → (L → Ranks → Ranks) → Option L → Ranks → Ranks
+optional over None m = m
+optional over (Some l) m = over l m

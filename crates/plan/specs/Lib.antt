@@ -1,5 +1,4 @@
 pub mod Doubling
-pub mod Either
 pub mod Knuth
 pub mod Layers
 pub mod Plane

@@ -19,10 +19,11 @@ impl Doubling {
     pub fn new(order: u8) -> Result<Doubling, Refusal>
         ensures { MatchResult result (λ d. d.order ≡ order) (λ e. (number_of e ≡ 16) × ((1 ≤ order) → (order ≤ 4) → ⊥)) }
     {
-        if order < 1 || order > 4 {
-            return Err(Refusal::OutsideLimits);
+        if (1..=4).contains(&order) {
+            Ok(Doubling { order })
+        } else {
+            Err(Refusal::OutsideLimits)
         }
-        Ok(Doubling { order })
     }
 }
 
@@ -30,6 +31,7 @@ impl Doubling {
 const CORNERS: [u8; 4] = [0, 2, 3, 1];
 
 // The rank of order 1.
+#[tactic(auto, unfolding(crate::specs::Doubling::corner_rank))]
 fn corner(row: usize, column: usize) -> u8
     ensures { result ≡ corner_rank row column }
 {

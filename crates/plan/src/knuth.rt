@@ -39,6 +39,7 @@ impl Plan for Knuth {
         TOP
     }
 
+    #[tactic(auto, unfolding(crate::specs::Knuth::knuth_rows))]
     fn rank(&self, row: usize, column: usize) -> u8 {
         RANKS[row % PERIOD][column % PERIOD]
     }

@@ -1,42 +1,32 @@
 // A layer that reads each row of the plan below the other way round.
-ghost use Rattle.std.specs.Prelude.{◌≡◌};
 ghost use Rattle.plan.specs.Layers.{mirrored};
 ghost use Rattle.plan.specs.LayerLaws.{mirrored_lawful};
 
+use crate::layer::Layer;
 use crate::plan::Plan;
 
 #[derive(Clone, Copy)]
-pub struct Mirror<P> {
-    below: P,
-}
+pub struct Mirror;
 
-impl<P> Mirror<P> {
-    pub fn new(below: P) -> Mirror<P>
-        ensures { result.below ≡ below }
-    {
-        Mirror { below }
-    }
-}
+impl Layer for Mirror {
+    ghost over = { λ _. mirrored };
 
-impl<P: Plan> Plan for Mirror<P> {
-    ghost meaning = { λ m. mirrored (P.Plan.meaning m.below) };
+    ghost lawful = { λ _. mirrored_lawful };
 
-    ghost lawful = { λ s. mirrored_lawful (P.Plan.meaning s.below) (P.Plan.lawful s.below) };
-
-    fn row_period(&self) -> usize {
-        self.below.row_period()
+    fn row_period<P: Plan>(&self, below: &P) -> usize {
+        below.row_period()
     }
 
-    fn column_period(&self) -> usize {
-        self.below.column_period()
+    fn column_period<P: Plan>(&self, below: &P) -> usize {
+        below.column_period()
     }
 
-    fn top(&self) -> u8 {
-        self.below.top()
+    fn top<P: Plan>(&self, below: &P) -> u8 {
+        below.top()
     }
 
-    fn rank(&self, row: usize, column: usize) -> u8 {
-        let q = self.below.column_period();
-        self.below.rank(row, q - 1 - column % q)
+    fn rank<P: Plan>(&self, below: &P, row: usize, column: usize) -> u8 {
+        let q = below.column_period();
+        below.rank(row, q - 1 - column % q)
     }
 }

@@ -1,41 +1,31 @@
 // A layer that takes the squares of the plan below in the opposite order.
-ghost use Rattle.std.specs.Prelude.{◌≡◌};
 ghost use Rattle.plan.specs.Layers.{reversed};
 ghost use Rattle.plan.specs.LayerLaws.{reversed_lawful};
 
+use crate::layer::Layer;
 use crate::plan::Plan;
 
 #[derive(Clone, Copy)]
-pub struct Reverse<P> {
-    below: P,
-}
+pub struct Reverse;
 
-impl<P> Reverse<P> {
-    pub fn new(below: P) -> Reverse<P>
-        ensures { result.below ≡ below }
-    {
-        Reverse { below }
-    }
-}
+impl Layer for Reverse {
+    ghost over = { λ _. reversed };
 
-impl<P: Plan> Plan for Reverse<P> {
-    ghost meaning = { λ v. reversed (P.Plan.meaning v.below) };
+    ghost lawful = { λ _. reversed_lawful };
 
-    ghost lawful = { λ s. reversed_lawful (P.Plan.meaning s.below) (P.Plan.lawful s.below) };
-
-    fn row_period(&self) -> usize {
-        self.below.row_period()
+    fn row_period<P: Plan>(&self, below: &P) -> usize {
+        below.row_period()
     }
 
-    fn column_period(&self) -> usize {
-        self.below.column_period()
+    fn column_period<P: Plan>(&self, below: &P) -> usize {
+        below.column_period()
     }
 
-    fn top(&self) -> u8 {
-        self.below.top()
+    fn top<P: Plan>(&self, below: &P) -> u8 {
+        below.top()
     }
 
-    fn rank(&self, row: usize, column: usize) -> u8 {
-        self.below.top() - self.below.rank(row, column)
+    fn rank<P: Plan>(&self, below: &P, row: usize, column: usize) -> u8 {
+        below.top() - below.rank(row, column)
     }
 }

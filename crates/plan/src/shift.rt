@@ -3,6 +3,7 @@ ghost use Rattle.std.specs.Prelude.{◌≡◌, ◌≤◌};
 ghost use Rattle.plan.specs.Layers.{along, shifted};
 ghost use Rattle.plan.specs.LayerLaws.{shifted_lawful};
 
+use crate::layer::Layer;
 use crate::plan::Plan;
 
 // A row or a column so many further on, modulo the period. It is reduced before the sum, so that none is too large.
@@ -14,47 +15,42 @@ fn further(x: usize, by: u8, period: usize) -> usize
     (x % period + by as usize) % period
 }
 
+// How many rows and how many columns.
 #[derive(Clone, Copy)]
-pub struct Shift<P> {
-    below: P,
+pub struct Shift {
     rows: u8,
     columns: u8,
 }
 
-impl<P> Shift<P> {
-    pub fn new(below: P, rows: u8, columns: u8) -> Shift<P>
-        ensures below { result.below ≡ below }
+impl Shift {
+    pub fn new(rows: u8, columns: u8) -> Shift
         ensures rows { result.rows ≡ rows }
         ensures columns { result.columns ≡ columns }
     {
-        Shift {
-            below,
-            rows,
-            columns,
-        }
+        Shift { rows, columns }
     }
 }
 
-impl<P: Plan> Plan for Shift<P> {
-    ghost meaning = { λ s. shifted s.rows s.columns (P.Plan.meaning s.below) };
+impl Layer for Shift {
+    ghost over = { λ s. shifted s.rows s.columns };
 
-    ghost lawful = { λ s. shifted_lawful (P.Plan.meaning s.below) s.rows s.columns (P.Plan.lawful s.below) };
+    ghost lawful = { λ s m. shifted_lawful m s.rows s.columns };
 
-    fn row_period(&self) -> usize {
-        self.below.row_period()
+    fn row_period<P: Plan>(&self, below: &P) -> usize {
+        below.row_period()
     }
 
-    fn column_period(&self) -> usize {
-        self.below.column_period()
+    fn column_period<P: Plan>(&self, below: &P) -> usize {
+        below.column_period()
     }
 
-    fn top(&self) -> u8 {
-        self.below.top()
+    fn top<P: Plan>(&self, below: &P) -> u8 {
+        below.top()
     }
 
-    fn rank(&self, row: usize, column: usize) -> u8 {
-        let p = self.below.row_period();
-        let q = self.below.column_period();
-        self.below.rank(further(row, self.rows, p), further(column, self.columns, q))
+    fn rank<P: Plan>(&self, below: &P, row: usize, column: usize) -> u8 {
+        let p = below.row_period();
+        let q = below.column_period();
+        below.rank(further(row, self.rows, p), further(column, self.columns, q))
     }
 }

@@ -1,33 +1,36 @@
 // A plan whose ranks the caller supplies.
-ghost use Rattle.std.specs.Prelude.{◌≡◌, ℕ, ◌<◌, ◌≤◌, [], ◌∷◌, length, Decides, MatchResult, slice_index};
+ghost use Rattle.std.specs.Prelude.{◌≡◌, ℕ, ◌<◌, ◌≤◌, [], ◌∷◌, length, MatchResult, slice_index};
 ghost use Rattle.refusal.specs.Numbers.{number_of};
+ghost use Rattle.plan.specs.Ranks.{Period};
 ghost use Rattle.plan.specs.Table.{tabled, table_plan, Sized, Clash, Refused, Taken};
 ghost use Rattle.plan.specs.TableLaws.{table_lawful};
 
-use crate::apart::{is_apart, rank_in};
+use crate::matrix::Matrix;
 use crate::plan::Plan;
 use refusal::Refusal;
 
-// The first rows × columns bytes are the ranks of one period, row by row; the others are not read.
+// The first rows × columns bytes are the ranks of one period, row by row; the others are not read. A table is held without a heap, so it has
+// an array with room for the largest period and no Vec.
 #[derive(Clone, Copy)]
 pub struct Table {
     rows: usize,
     columns: usize,
     ranks: [u8; 256],
-    ghost height: { (2 ≤ rows) × (rows ≤ 16) },
-    ghost width: { (2 ≤ columns) × (columns ≤ 16) },
+    ghost height: { Period rows },
+    ghost width: { Period columns },
     ghost bytes: { ((r c : ℕ) → tabled rows columns ranks r c ≤ 255) },
     ghost apart: { Clash (tabled rows columns ranks) → ⊥ },
 }
 
-// Whether the periods are 2 to 16 and there are as many bytes as squares.
-fn is_sized(rows: usize, columns: usize, count: usize) -> bool
-    ensures { Decides result (Sized rows columns count) }
+// Whether the bytes can be a table's ranks.
+fn check(rows: usize, columns: usize, bytes: &[u8]) -> Result<(), Refusal>
+    ensures { MatchResult result (λ _. Sized rows columns (length bytes.now) × (Clash (tabled rows columns bytes.now) → ⊥)) (λ e. Refused rows columns bytes.now (number_of e)) }
 {
-    if rows < 2 || rows > 16 || columns < 2 || columns > 16 {
-        return false;
+    if Matrix::new(rows, columns, bytes)?.is_apart() {
+        Ok(())
+    } else {
+        Err(Refusal::TouchingEqualRanks)
     }
-    count == rows * columns
 }
 
 // The bytes, and zeros after them.
@@ -36,9 +39,7 @@ fn padded(bytes: &[u8]) -> [u8; 256]
     ensures { (k : ℕ) → k < length bytes.now → slice_index result k ≡ slice_index bytes.now k }
 {
     let mut ranks = [0; 256];
-    for i in 0..bytes.len() {
-        ranks[i] = bytes[i];
-    }
+    ranks[..bytes.len()].copy_from_slice(bytes);
     ranks
 }
 
@@ -60,12 +61,7 @@ impl Table {
     pub fn write(&mut self, rows: usize, columns: usize, bytes: &[u8]) -> Result<(), Refusal>
         ensures { MatchResult result (λ _. Taken rows columns bytes.now (table_plan self.new.rows self.new.columns self.new.ranks)) (λ e. Refused rows columns bytes.now (number_of e) × (self.new ≡ self.old)) }
     {
-        if !is_sized(rows, columns, bytes.len()) {
-            return Err(Refusal::OutsideLimits);
-        }
-        if !is_apart(rows, columns, bytes) {
-            return Err(Refusal::TouchingEqualRanks);
-        }
+        check(rows, columns, bytes)?;
         let ranks = padded(bytes);
         *self = Table {
             rows,
@@ -74,12 +70,25 @@ impl Table {
         };
         Ok(())
     }
+
+    // Its ranks, to be read.
+    fn matrix(&self) -> Matrix<'_>
+        ensures rows { result.rows ≡ self.now.rows }
+        ensures columns { result.columns ≡ self.now.columns }
+        ensures ranks { result.ranks.now ≡ self.now.ranks }
+    {
+        Matrix {
+            rows: self.rows,
+            columns: self.columns,
+            ranks: &self.ranks,
+        }
+    }
 }
 
 impl Plan for Table {
     ghost meaning = { λ t. table_plan t.rows t.columns t.ranks };
 
-    ghost lawful = { λ t. table_lawful t.rows t.columns t.ranks (record { least = t.height.0; most = t.height.1 }) (record { least = t.width.0; most = t.width.1 }) t.bytes t.apart };
+    ghost lawful = { λ t. table_lawful t.rows t.columns t.ranks t.height t.width t.bytes t.apart };
 
     fn row_period(&self) -> usize {
         self.rows
@@ -94,6 +103,6 @@ impl Plan for Table {
     }
 
     fn rank(&self, row: usize, column: usize) -> u8 {
-        rank_in(self.rows, self.columns, &self.ranks, row, column)
+        self.matrix().rank(row, column)
     }
 }

@@ -1,41 +1,31 @@
 // A layer that exchanges rows and columns.
-ghost use Rattle.std.specs.Prelude.{◌≡◌};
 ghost use Rattle.plan.specs.Layers.{turned};
 ghost use Rattle.plan.specs.LayerLaws.{turned_lawful};
 
+use crate::layer::Layer;
 use crate::plan::Plan;
 
 #[derive(Clone, Copy)]
-pub struct Turn<P> {
-    below: P,
-}
+pub struct Turn;
 
-impl<P> Turn<P> {
-    pub fn new(below: P) -> Turn<P>
-        ensures { result.below ≡ below }
-    {
-        Turn { below }
-    }
-}
+impl Layer for Turn {
+    ghost over = { λ _. turned };
 
-impl<P: Plan> Plan for Turn<P> {
-    ghost meaning = { λ t. turned (P.Plan.meaning t.below) };
+    ghost lawful = { λ _. turned_lawful };
 
-    ghost lawful = { λ s. turned_lawful (P.Plan.meaning s.below) (P.Plan.lawful s.below) };
-
-    fn row_period(&self) -> usize {
-        self.below.column_period()
+    fn row_period<P: Plan>(&self, below: &P) -> usize {
+        below.column_period()
     }
 
-    fn column_period(&self) -> usize {
-        self.below.row_period()
+    fn column_period<P: Plan>(&self, below: &P) -> usize {
+        below.row_period()
     }
 
-    fn top(&self) -> u8 {
-        self.below.top()
+    fn top<P: Plan>(&self, below: &P) -> u8 {
+        below.top()
     }
 
-    fn rank(&self, row: usize, column: usize) -> u8 {
-        self.below.rank(column, row)
+    fn rank<P: Plan>(&self, below: &P, row: usize, column: usize) -> u8 {
+        below.rank(column, row)
     }
 }

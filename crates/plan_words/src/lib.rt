@@ -2,7 +2,8 @@
 #![tactic(auto)]
 
 mod fault;
+mod parse;
 mod words;
 
 pub use fault::Fault;
-pub use words::parse_pile;
+pub use parse::parse_pile;

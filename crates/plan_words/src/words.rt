@@ -1,117 +1,85 @@
-// A plan told in words: a plan's name with its numbers, and then layers, each over what stands before it.
+// The words of a plan, read one after the other.
 ghost use Rattle.std.specs.Prelude.{◌≤◌, IfOk};
 
 use crate::fault::Fault;
-use pile::{Base, Layer, Pile, piled};
-use plan::{Doubling, Either, Knuth, Table};
-use std::alloc::Global;
+use std::alloc::{AllocError, Global};
+use std::iter::Peekable;
+use std::slice::Iter;
 
-// Periods may be told up to this number, so that the library is the judge of their limits.
-const MOST_PERIOD: usize = 65535;
-
-// The number that stands at a place of the words, where it is at most `most`.
-fn number(heap: Global, words: &[String], at: usize, most: usize) -> Result<usize, Fault>
-    ensures { IfOk result (λ n. n ≤ most) }
-{
-    let Some(word) = words.get(at) else {
-        return Err(Fault::MissingNumber);
-    };
-    if let Ok(n) = word.as_str().parse::<usize>() {
-        if n <= most {
-            return Ok(n);
-        }
-    }
-    Err(Fault::NoNumber(String::from_str(heap, word.as_str())?, most))
-}
-
-// The same for a byte.
-fn byte(heap: Global, words: &[String], at: usize) -> Result<u8, Fault> {
-    let n = number(heap, words, at, 255)?;
-    Ok(n as u8)
+// The words that are not read yet, and the heap for what is kept of them.
+#[derive(Drop)]
+pub(crate) struct Words<'a> {
+    heap: Global,
+    left: Peekable<Iter<'a, String>>,
 }
 
 // Whether a word begins as a number does.
 fn is_number(word: &str) -> bool {
-    match word.bytes().next() {
-        Some(b) => b >= b'0' && b <= b'9',
-        None => false,
+    word.starts_with(|c: char| c.is_ascii_digit())
+}
+
+// The number that a word tells, where it is at most `most`.
+fn number_in(heap: Global, word: &str, most: usize) -> Result<usize, Fault>
+    ensures { IfOk result (λ n. n ≤ most) }
+{
+    match word.parse::<usize>() {
+        Ok(n) if n <= most => Ok(n),
+        _ => Err(Fault::NoNumber {
+            word: String::from_str(heap, word)?,
+            most,
+        }),
     }
 }
 
-// `doubling ORDER`, and how many words that is.
-fn parse_doubling(heap: Global, words: &[String]) -> Result<(Base, usize), Fault> {
-    let doubling = Doubling::new(byte(heap, words, 1)?)?;
-    Ok((Either::Right(Either::Left(doubling)), 2))
+// The same for a byte.
+fn byte_in(heap: Global, word: &str) -> Result<u8, Fault> {
+    Ok(number_in(heap, word, 255)? as u8)
 }
 
-// `table ROWS COLUMNS RANKS..`, and how many words that is: the ranks go on as long as there are numbers.
-fn parse_table(heap: Global, words: &[String]) -> Result<(Base, usize), Fault> {
-    let rows = number(heap, words, 1, MOST_PERIOD)?;
-    let columns = number(heap, words, 2, MOST_PERIOD)?;
-    let mut ranks = Vec::new(heap);
-    let mut used = 3;
-    for at in 3..words.len() {
-        if !is_number(words[at].as_str()) {
-            break;
+impl<'a> Words<'a> {
+    // All of the words.
+    pub(crate) fn new(heap: Global, words: &'a [String]) -> Words<'a> {
+        Words {
+            heap,
+            left: words.iter().peekable(),
         }
-        ranks.push(byte(heap, words, at)?)?;
-        used = at + 1;
     }
-    let mut table = Table::new();
-    table.write(rows, columns, ranks.as_slice())?;
-    Ok((Either::Right(Either::Right(table)), used))
-}
 
-// The plan that the first words tell, and how many words that is.
-fn parse_base(heap: Global, words: &[String]) -> Result<(Base, usize), Fault> {
-    let Some(name) = words.get(0) else {
-        return Err(Fault::NoPlan);
-    };
-    match name.as_str() {
-        "knuth" => Ok((Either::Left(Knuth), 1)),
-        "doubling" => parse_doubling(heap, words),
-        "table" => parse_table(heap, words),
-        other => Err(Fault::UnknownPlan(String::from_str(heap, other)?)),
+    // The next word.
+    pub(crate) fn next(&mut self) -> Option<&'a str> {
+        self.left.next().map(|word| word.as_str())
     }
-}
 
-// The layer that the words from a place on tell, and the place behind it.
-fn parse_layer(heap: Global, words: &[String], at: usize) -> Result<(Layer, usize), Fault> {
-    let Some(name) = words.get(at) else {
-        return Ok((Layer::Plain, at));
-    };
-    let behind = at.saturating_add(1);
-    match name.as_str() {
-        "mirror" => Ok((Layer::Mirror, behind)),
-        "turn" => Ok((Layer::Turn, behind)),
-        "reverse" => Ok((Layer::Reverse, behind)),
-        "shift" => {
-            let rows = byte(heap, words, behind)?;
-            let columns = byte(heap, words, at.saturating_add(2))?;
-            Ok((Layer::Shift { rows, columns }, at.saturating_add(3)))
+    // The next word, where a number is due.
+    fn next_number(&mut self) -> Result<&'a str, Fault> {
+        self.next().ok_or(Fault::MissingNumber)
+    }
+
+    // The number that the next word tells, where it is at most `most`.
+    pub(crate) fn number(&mut self, most: usize) -> Result<usize, Fault>
+        ensures { IfOk result (λ n. n ≤ most) }
+    {
+        let word = self.next_number()?;
+        number_in(self.heap, word, most)
+    }
+
+    // The byte that the next word tells.
+    pub(crate) fn byte(&mut self) -> Result<u8, Fault> {
+        let word = self.next_number()?;
+        byte_in(self.heap, word)
+    }
+
+    // The bytes that the next words tell, as long as they begin as numbers do.
+    pub(crate) fn bytes(&mut self) -> Result<Vec<u8>, Fault> {
+        let mut bytes = Vec::new(self.heap);
+        while let Some(word) = self.left.next_if(|word| is_number(word.as_str())) {
+            bytes.push(byte_in(self.heap, word.as_str())?)?;
         }
-        other => Err(Fault::UnknownLayer(String::from_str(heap, other)?)),
+        Ok(bytes)
     }
-}
 
-// The layers that the words from a place on tell, and plain ones behind them.
-fn parse_layers(heap: Global, words: &[String], from: usize) -> Result<[Layer; 5], Fault> {
-    let mut layers = [Layer::Plain; 5];
-    let mut at = from;
-    for i in 0..5 {
-        let (layer, behind) = parse_layer(heap, words, at)?;
-        layers[i] = layer;
-        at = behind;
+    // A word of its own, to be told in a fault.
+    pub(crate) fn owned(&self, word: &str) -> Result<String, AllocError> {
+        String::from_str(self.heap, word)
     }
-    if at < words.len() {
-        return Err(Fault::TooManyLayers);
-    }
-    Ok(layers)
-}
-
-// The plan and the layers over it that the words tell.
-pub fn parse_pile(heap: Global, words: &[String]) -> Result<Pile, Fault> {
-    let (base, used) = parse_base(heap, words)?;
-    let layers = parse_layers(heap, words, used)?;
-    Ok(piled(base, layers))
 }

@@ -11,11 +11,7 @@ use std::process::ExitCode;
 
 // The words of the command line, without the program's own name.
 fn arguments(rt: &HostRuntime) -> anyhow::Result<Vec<String>> {
-    let mut words = Vec::new(rt.alloc());
-    for word in env::args(rt)?.skip(1) {
-        words.push(word)?;
-    }
-    Ok(words)
+    Ok(env::args(rt)?.skip(1).collect(rt.alloc())?)
 }
 
 // Prints the sheet, or says on standard error why there is none.

@@ -5,23 +5,10 @@ use sheet::{SheetRow, sheet_row};
 use std::alloc::Global;
 use std::fmt::Write;
 
-// The words with a space between each two.
-fn joined(heap: Global, words: &[String]) -> anyhow::Result<String> {
-    let mut line = String::new(heap);
-    for word in words {
-        if !line.is_empty() {
-            line.push_str(" ")?;
-        }
-        line.push_str(word.as_str())?;
-    }
-    Ok(line)
-}
-
 // The ranks of a row, four characters to each.
 fn aligned(heap: Global, row: &SheetRow) -> anyhow::Result<String> {
     let mut line = String::new(heap);
-    for column in 0..row.count {
-        let rank = row.ranks[column];
+    for rank in row.ranks() {
         write!(line, "{rank:>4}")?;
     }
     Ok(line)
@@ -29,7 +16,7 @@ fn aligned(heap: Global, row: &SheetRow) -> anyhow::Result<String> {
 
 // Prints which plan it is, its periods and top, and its ranks over one period.
 pub fn print_sheet(rt: &HostRuntime, words: &[String], pile: &Pile) -> anyhow::Result<()> {
-    let name = joined(rt.alloc(), words)?;
+    let name = words.join(rt.alloc(), " ")?;
     let rows = pile.row_period();
     let columns = pile.column_period();
     let top = pile.top();

@@ -1,24 +1,34 @@
--- A list that is filled place by place: its start and its step.
-use mathlib.Core.Path.{◌≡◌, refl, ◌∙◌}
-use mathlib.Core.Logic.{◌≢◌}
-use mathlib.Core.List.{List}
-use Prim.Native.Nat.{ℕ, zero, suc, ◌+◌, ◌<◌}
-use native.Mathlib.Omega.{arith}
-use borrow.Author.Count.{below_more}
-use lib.ListN.{length, get_or, set, replicate}
-use lib.Seq.{get_or-set_same, get_or-set_other}
+-- An array that a closure makes, which is the same closure at every call.
+use Rattle.std.proofs.Common.{◌≡◌, ℕ, zero, suc, ◌+◌, ◌≤◌, ◌<◌, List, get_or, ⊎_elim, subst, sym, arith}
+use Rattle.std.proofs.lemmas.Bool.{cases_lt}
+use Rattle.std.proofs.lemmas.List.{get_or_past}
+use Rattle.std.specs.Array.{IsFromFnResult, IsFromFnResultFrom}
+use Rattle.std.specs.Fn.{Called}
 use Rattle.sheet.specs.Sheets.{Reads}
+use denote.Param.Members.{Mut}
 
-zeros : (n c : ℕ) → ◌≡◌ {A = ℕ} (get_or (replicate n 0) c 0) 0
-zeros zero c = refl
-zeros (suc n) zero = refl
-zeros (suc n) (suc c) = zeros n c
+-- what each call tells of what it gave holds of the element
+each_made : {F B : Type 0} (g : Mut F (ℕ × Unit {0}) B) (P : ℕ → B → Type 0) (f : F)
+    → ((i : ℕ) (y : B) (q : F) → Called g f (i, tt) y q → (q ≡ f) × P i y)
+    → (ys : List B) (i n : ℕ) → IsFromFnResultFrom g f ys i n → (k : ℕ) (d : B) → i ≤ k → k < i + n → P k (get_or ys k d)
+each_made g P f step ys i zero made k d low high = absurd (omega arith)
+each_made g P f step ys i (suc n) made k d low high =
+    let called = step i made.1 made.0 made.3 in
+    ⊎_elim
+    (λ (h : i < k). each_made g P f step ys (i + 1) n (subst (λ q. IsFromFnResultFrom g q ys (i + 1) n) called.0 made.4) k d (omega arith) (omega arith))
+    (λ (h : k ≤ i).
+    let e : i ≡ k = omega arith in
+    subst (λ j. P j (get_or ys j d)) e (subst (P i) (sym (made.2.1 d)) called.1))
+    (cases_lt i k)
 
-pub reads_none : (f : ℕ → ℕ) (n : ℕ) → Reads f 0 (replicate n 0)
-reads_none f n = record { inside = λ c h. absurd (omega arith); behind = λ c h. zeros n c }
-
-pub reads_more : (f : ℕ → ℕ) (k : ℕ) (xs : List ℕ) (x : ℕ) → k < length xs → x ≡ f k → Reads f k xs → Reads f (k + 1) (set xs k x)
-reads_more f k xs x lt is old = record {
-  inside = below_more _ _ (λ c h. let ne : c ≢ k = omega arith in get_or-set_other xs k c x 0 ne ∙ old.inside c h) (get_or-set_same xs k x 0 lt ∙ is);
-  behind = λ c h. let ne : c ≢ k = omega arith in get_or-set_other xs k c x 0 ne ∙ old.behind c (omega arith);
+-- so the array holds r 0, r 1, .. up to a count, and 0 behind, where the closure gives these
+pub reads_made : {F : Type 0} (g : Mut F (ℕ × Unit {0}) ℕ) (r : ℕ → ℕ) (count n : ℕ) (f : F)
+    → ((i y : ℕ) (q : F) → Called g f (i, tt) y q → (q ≡ f) × ((i < count → y ≡ r i) × (count ≤ i → y ≡ 0)))
+    → (ys : List ℕ) → IsFromFnResult g f ys n → count ≤ n → Reads r count ys
+reads_made g r count n f step ys made room = record {
+  inside = λ k h. (each k (omega arith)).0 h;
+  behind = λ k h. ⊎_elim (λ l. (each k l).1 h) (λ l. get_or_past ys k 0 (omega (arith, made.long))) (cases_lt k n);
 }
+  where
+    each : (k : ℕ) → k < n → (k < count → get_or ys k 0 ≡ r k) × (count ≤ k → get_or ys k 0 ≡ 0)
+    each k l = each_made g (λ i y. (i < count → y ≡ r i) × (count ≤ i → y ≡ 0)) f step ys 0 n made.each k 0 (omega arith) (omega arith)

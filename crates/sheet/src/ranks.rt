@@ -4,6 +4,7 @@ ghost use Rattle.sheet.specs.Sheets.{RowOf, Reads};
 
 use crate::line::SheetRow;
 use plan::Plan;
+use std::array;
 
 // The ranks of a row from the column 0 on, so many of them, and zeros behind.
 fn ranks_from<P: Plan>(plan: &P, row: usize, count: usize) -> [u8; 16]
@@ -11,11 +12,13 @@ fn ranks_from<P: Plan>(plan: &P, row: usize, count: usize) -> [u8; 16]
     ensures full { length result ≡ 16 }
     ensures ranks { Reads ((P.Plan.meaning plan.now).rank row) count result }
 {
-    let mut ranks = [0; 16];
-    for column in 0..count {
-        ranks[column] = plan.rank(row, column);
-    }
-    ranks
+    array::from_fn(|column| {
+        if column < count {
+            plan.rank(row, column)
+        } else {
+            0
+        }
+    })
 }
 
 // A row of the plan's ranks over one column period.

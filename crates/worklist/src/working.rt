@@ -1,8 +1,7 @@
 // The work on one job: its calls, and memory of ample size to lend to them.
 use crate::list::{Request, Worklist};
 use calls::{Answer, Call, Window, work};
-use pile::{Layer, Pile, piled};
-use plan::{Either, Knuth};
+use pile::{Base, Pile, piled};
 use quantiser::Threshold;
 use refusal::Refusal;
 use std::alloc::{AllocError, Global};
@@ -35,7 +34,7 @@ struct Lent {
 // The plan that was told, or Knuth's.
 fn plan_of(list: &Worklist) -> Pile {
     list.plan
-        .unwrap_or_else(|| piled(Either::Left(Knuth), [Layer::Plain; 5]))
+        .unwrap_or_else(|| piled(Base::Knuth, [None; 5]))
 }
 
 // The threshold that was told, or the usual one.
