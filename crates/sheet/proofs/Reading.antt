@@ -1,25 +1,12 @@
--- An array that a closure makes, which is the same closure at every call.
-use Rattle.std.proofs.Common.{◌≡◌, ℕ, zero, suc, ◌+◌, ◌≤◌, ◌<◌, List, get_or, ⊎_elim, subst, sym, arith}
+-- The array that holds the ranks of a row.
+use Rattle.std.proofs.Common.{◌≡◌, ℕ, ◌≤◌, ◌<◌, List, get_or, ⊎_elim, arith}
 use Rattle.std.proofs.lemmas.Bool.{cases_lt}
 use Rattle.std.proofs.lemmas.List.{get_or_past}
-use Rattle.std.specs.Array.{IsFromFnResult, IsFromFnResultFrom}
+use Rattle.std.specs.Array.{IsFromFnResult}
 use Rattle.std.specs.Fn.{Called}
+use Rattle.plan.proofs.Made.{each_made}
 use Rattle.sheet.specs.Sheets.{Reads}
 use denote.Param.Members.{Mut}
-
--- what each call tells of what it gave holds of the element
-each_made : {F B : Type 0} (g : Mut F (ℕ × Unit {0}) B) (P : ℕ → B → Type 0) (f : F)
-    → ((i : ℕ) (y : B) (q : F) → Called g f (i, tt) y q → (q ≡ f) × P i y)
-    → (ys : List B) (i n : ℕ) → IsFromFnResultFrom g f ys i n → (k : ℕ) (d : B) → i ≤ k → k < i + n → P k (get_or ys k d)
-each_made g P f step ys i zero made k d low high = absurd (omega arith)
-each_made g P f step ys i (suc n) made k d low high =
-    let called = step i made.1 made.0 made.3 in
-    ⊎_elim
-    (λ (h : i < k). each_made g P f step ys (i + 1) n (subst (λ q. IsFromFnResultFrom g q ys (i + 1) n) called.0 made.4) k d (omega arith) (omega arith))
-    (λ (h : k ≤ i).
-    let e : i ≡ k = omega arith in
-    subst (λ j. P j (get_or ys j d)) e (subst (P i) (sym (made.2.1 d)) called.1))
-    (cases_lt i k)
 
 -- so the array holds r 0, r 1, .. up to a count, and 0 behind, where the closure gives these
 pub reads_made : {F : Type 0} (g : Mut F (ℕ × Unit {0}) ℕ) (r : ℕ → ℕ) (count n : ℕ) (f : F)

@@ -14,6 +14,7 @@ use grid::Square;
 use plan::Plan;
 use quantiser::Quantiser;
 use refusal::Refusal;
+use std::array;
 
 // The number after a phase of a period: rows are counted by it without a division.
 fn next_phase(phase: usize, period: usize) -> usize
@@ -78,11 +79,14 @@ impl<P: Plan, Q: Quantiser> Job<P, Q> {
         ensures full { length result ≡ 16 }
         ensures each { (row : ℕ) → row < (P.Plan.meaning self.now.plan).row_period → row < self.now.size.rows → First self.now.size.columns (P.Plan.meaning self.now.plan) rank row (slice_index_or result row None) }
     {
-        let mut firsts = [None; 16];
-        for row in 0..self.plan.row_period().min(self.size.rows) {
-            firsts[row] = self.first_column(rank, row);
-        }
-        firsts
+        let rows = self.plan.row_period().min(self.size.rows);
+        array::from_fn(|row| {
+            if row < rows {
+                self.first_column(rank, row)
+            } else {
+                None
+            }
+        })
     }
 
     // Whether the first column of a row with a rank is the only one of its period.

@@ -1,15 +1,13 @@
-use Rattle.std.proofs.Common.{◌<◌, ◌≢◌, length, arith, length-set, get_or-set_other, get_or-set_same, below_more}
+use Rattle.std.proofs.Common.{ℕ, ◌<◌, None, arith, rules}
+use Rattle.plan.proofs.Made.{each_made}
+use Rattle.job.specs.Periods.{First}
 use Rattle.job.proofs.job.Job.first_columns.Goals as goal
 
-pub loop-row-preserved : goal.loop-row-preserved
-loop-row-preserved g c =
-    let row = c.loop-row.row in
-    let law = g.met.P.Plan.lawful c.args.self.now.plan in
-    let most = law.row_period.most in
-    let firsts = c.loop-row.firsts in
-    let inside : row < length firsts = omega arith in (
-      simp length-set c.loop-row.invariant.0,
-      below_more _ _
-          (λ k h. let ne : k ≢ row = omega arith in rw get_or-set_other (c.loop-row.invariant.1 k h))
-          (rw get_or-set_same c.first_column.ensures),
-    )
+pub returns-clause-each : goal.returns-clause-each
+returns-clause-each g c row inside shown =
+    let job = c.args.self.now in
+    let plan = g.P.Plan.meaning job.plan in
+    let law = g.met.P.Plan.lawful job.plan in
+    let many = c.min-rows.result in
+    each_made _ (λ k first. k < many → First job.size.columns plan c.args.rank k first) _ (λ i y q k. search rules) _ 0 16 c.from_fn.ensures.items.each row None (omega arith)
+    (omega (arith, law.row_period.most)) (omega (arith, c.min-rows.ensures, c.row_period.ensures))
