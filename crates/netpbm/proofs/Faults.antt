@@ -58,15 +58,14 @@ short_begins input h =
     and_right (eqb (get_or input 0 0) 80) (eqb (get_or input 1 0) 50 && separator (get_or input 2 0))
     (and_right (eqb (get_or input 1 0) 50) (separator (get_or input 2 0)) (ap separator (get_or_past input 2 0 (omega arith))))
 
-pub sample_fault_is : (xs ys : List ℕ) (g m p q : ℕ) → xs ≡ ys → g ≡ m → p ≡ q → sample_fault xs g p ≡ sample_fault ys m q
-sample_fault_is xs ys g m p q a b c = ap (λ l. sample_fault l g p) a ∙ ap (λ n. sample_fault ys n p) b ∙ ap (λ n. sample_fault ys m n) c
+-- what is read at the position of sample i: its fault, its tone, and where sample i + 1 is
+pub sample_fault_is : (input : List ℕ) (greatest at i : ℕ) → greatest ≡ greatest_in input → at ≡ after input (3 + i) → sample_fault input greatest at ≡ fault_of input i
+sample_fault_is input greatest at i g p = rw (g, p) refl
 
--- the tone made of the number that stands next
-pub tone_is : (xs ys : List ℕ) (p i v t : ℕ) → xs ≡ ys → p ≡ after ys (3 + i) → v ≡ value_at xs p → t ≡ tone_of v → t ≡ tone_in ys i
-tone_is xs ys p i v t a b c d = d ∙ ap tone_of c ∙ ap (λ l. tone_of (value_at l p)) a ∙ ap (λ n. tone_of (value_at ys n)) b
+pub tone_is : (input : List ℕ) (at i value tone : ℕ) → at ≡ after input (3 + i) → value ≡ value_at input at → tone ≡ tone_of value → tone ≡ tone_in input i
+tone_is input at i value tone p v t = t ∙ v ∙ ap (value_at input) p
 
--- behind sample i comes sample i + 1
-pub next_is : (xs ys : List ℕ) (p i q : ℕ) → xs ≡ ys → p ≡ after ys (3 + i) → q ≡ stop xs p → q ≡ after ys (3 + (i + 1))
-next_is xs ys p i q a b c =
+pub next_is : (input : List ℕ) (at i end : ℕ) → at ≡ after input (3 + i) → end ≡ stop input at → end ≡ after input (3 + (i + 1))
+next_is input at i end p e =
     let next : suc (3 + i) ≡ 3 + (i + 1) = omega arith in
-    c ∙ ap (λ l. stop l p) a ∙ ap (stop ys) b ∙ ap (after ys) next
+    e ∙ ap (stop input) p ∙ ap (after input) next

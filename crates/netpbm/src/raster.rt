@@ -11,7 +11,7 @@ pub(crate) fn row_bytes(columns: usize) -> usize
     requires { columns ≤ 4096 }
     ensures { result ≡ bytes_for columns }
 {
-    (columns + 7) / 8
+    columns.div_ceil(8)
 }
 
 // Fills an output of just that length with the rows in order, each in a part of its own.

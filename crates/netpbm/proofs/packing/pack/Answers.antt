@@ -45,6 +45,6 @@ returns c =
     let ended : length rest ≡ rows * w = ap length c.put_raster.ensures ∙ length-raster rows columns codes ∙ ap (λ n. rows * n) (sym c.row_bytes.ensures) in (
       by ∙ c.in_ok-check_codes.ensures,
       due,
-      two_parts out front rest start total (start - 0) (total - start) begun (omega arith) (omega arith) (omega arith) (omega arith)
+      two_parts out front rest start total start (total - start) begun (omega arith) (omega arith) (omega arith) (omega arith)
           ∙ ap (λ l. l ++ rest ++ drop total out) c.put_header.ensures ∙ ap (λ l. header rows columns ++ l ++ drop total out) c.put_raster.ensures,
     )
