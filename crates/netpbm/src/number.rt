@@ -1,5 +1,5 @@
 // The numbers of a plain PGM, each read from an offset of the input on.
-ghost use Rattle.std.specs.Prelude.{◌≡◌, ◌≤◌, ◌&&◌, false, true, length, Some, MatchResult, OnOk, IfOk, nat_le};
+ghost use Rattle.std.specs.Prelude.{◌≡◌, ◌≤◌, ◌&&◌, false, true, length, Some, MatchResult, IfOk, nat_le};
 ghost use Rattle.netpbm.specs.Words.{start, capped, spelled, word_from, Spells};
 ghost use Rattle.netpbm.specs.Pgm.{told, told_by, number_fault};
 
@@ -74,7 +74,7 @@ impl Number {
         ensures { MatchResult result (λ v. (v ≡ self.value) × (least ≤ v) × (v ≤ most)) (λ f. (told_by f ≡ told 14 self.offset) × ((nat_le least self.value && nat_le self.value most) ≡ false)) }
     {
         match u8::try_from(self.value) {
-            Ok(byte) if least <= byte && byte <= most => Ok(byte),
+            Ok(byte) if (least..=most).contains(&byte) => Ok(byte),
             _ => Err(Fault {
                 refusal: Refusal::SampleOutsideRange,
                 offset: self.offset,
