@@ -1,4 +1,5 @@
-// The numbers of a plain PGM, each read from an offset of the input on.
+// The numbers of a plain PGM, each read from an offset of the input on. No reader moves along the input, since each of its contracts would
+// have to say that the input stays as it was.
 ghost use Rattle.std.specs.Prelude.{◌≡◌, ◌≤◌, ◌&&◌, false, true, length, Some, MatchResult, IfOk, nat_le};
 ghost use Rattle.netpbm.specs.Words.{start, capped, spelled, word_from, Spells};
 ghost use Rattle.netpbm.specs.Pgm.{told, told_by, number_fault};

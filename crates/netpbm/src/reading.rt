@@ -34,7 +34,7 @@ pub fn read_pgm(input: &[u8], band: &mut [u8]) -> Result<Picture, Fault>
         return Err(Refusal::NotPlainPgm.into());
     }
     let head = read_head(input, band.len())?;
+    let end = read_samples(input, head, band)?;
     let size = head.size;
-    let end = read_samples(input, head.end, head.greatest, size.squares(), band)?;
     Ok(Picture { size, end })
 }

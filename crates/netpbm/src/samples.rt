@@ -1,9 +1,10 @@
 // The samples of a plain PGM, and the tones that they stand for.
-ghost use Rattle.std.specs.Prelude.{◌≡◌, ◌+◌, ◌≤◌, length, Some, None, MatchResult, IfOk};
+ghost use Rattle.std.specs.Prelude.{◌≡◌, ◌+◌, ◌*◌, ◌≤◌, length, Some, None, MatchResult, IfOk};
 ghost use Rattle.netpbm.specs.Words.{after};
 ghost use Rattle.netpbm.specs.Pgm.{told_by, tone_of, sample_fault, SampleRead, first_fault, sound, greatest_in, filled};
 
 use crate::fault::Fault;
+use crate::head::Head;
 use crate::number::next_number;
 
 // A sample, and the offset behind it.
@@ -33,25 +34,19 @@ fn read_sample(input: &[u8], at: usize, greatest: u8) -> Result<Sample, Fault>
     })
 }
 
-// Reads so many samples into the front of the band, up to the first one at fault, and answers the offset behind the last.
-pub(crate) fn read_samples(
-    input: &[u8],
-    from: usize,
-    greatest: u8,
-    count: usize,
-    band: &mut [u8],
-) -> Result<usize, Fault>
-    requires bound { from ≤ length input.now }
-    requires position { from ≡ after input.now 3 }
-    requires greatest { greatest ≡ greatest_in input.now }
-    requires room { count ≤ length band.old }
-    ensures fault { MatchResult result (λ end. (first_fault input.now count ≡ None) × (end ≡ after input.now (3 + count))) (λ f. first_fault input.now count ≡ Some (told_by f)) }
-    ensures band { band.new ≡ filled input.now (sound input.now count) band.old }
+// Reads a sample for each square into the front of the band, up to the first one at fault, and answers the offset behind the last.
+pub(crate) fn read_samples(input: &[u8], head: Head, band: &mut [u8]) -> Result<usize, Fault>
+    requires bound { head.end ≤ length input.now }
+    requires position { head.end ≡ after input.now 3 }
+    requires greatest { head.greatest ≡ greatest_in input.now }
+    requires room { head.size.rows * head.size.columns ≤ length band.old }
+    ensures fault { let count = head.size.rows * head.size.columns in MatchResult result (λ end. (first_fault input.now count ≡ None) × (end ≡ after input.now (3 + count))) (λ f. first_fault input.now count ≡ Some (told_by f)) }
+    ensures band { band.new ≡ filled input.now (sound input.now (head.size.rows * head.size.columns)) band.old }
 {
-    let mut at = from;
+    let mut at = head.end;
     // by index, since of what is written through `iter_mut` a proof knows the length and no byte
-    for i in 0..count {
-        let sample = read_sample(input, at, greatest)?;
+    for i in 0..head.size.squares() {
+        let sample = read_sample(input, at, head.greatest)?;
         band[i] = tone_of(sample.value);
         at = sample.end;
     }

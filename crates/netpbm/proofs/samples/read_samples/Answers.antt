@@ -1,4 +1,4 @@
-use Rattle.std.proofs.Common.{◌≡◌, ◌+◌, None, sym, refl, ap, ◌∙◌, arith}
+use Rattle.std.proofs.Common.{◌≡◌, ◌+◌, ◌*◌, None, sym, refl, ap, ◌∙◌, arith}
 use Rattle.std.proofs.lemmas.Result.{err_from_is_err_and}
 use Rattle.netpbm.specs.Words.{after}
 use Rattle.netpbm.specs.Pgm.{first_fault}
@@ -31,8 +31,9 @@ returns-in_err-sample c =
     let input = c.args.input.now in
     let i = c.loop-i.i in
     let inv = c.loop-i.invariant in
+    let count = c.args.head.size.rows * c.args.head.size.columns in
     let bad = sym (sample_fault_is input _ _ i c.requires.greatest inv.place) ∙ c.in_err-sample.ensures.value in
-    let stays = fault_stays input i _ inv.clean bad c.args.count (omega arith) in
+    let stays = fault_stays input i _ inv.clean bad count (omega arith) in
     let p = err_from_is_err_and c.from_residual.result c.from_residual.ensures.1 in
     record { fault = rw (p.1, p.2) stays.0; band = band_is input c.loop-i.band c.args.band.now i _ stays.1 inv.front inv.back }
 
@@ -40,9 +41,10 @@ pub returns : goal.returns
 returns c =
     let input = c.args.input.now in
     let inv = c.loop-i.invariant in
-    let e : c.loop-i.i ≡ c.args.count = omega arith in
-    let clean : first_fault input c.args.count ≡ None = ap (first_fault input) (sym e) ∙ inv.clean in
+    let count = c.args.head.size.rows * c.args.head.size.columns in
+    let e : c.loop-i.i ≡ count = omega arith in
+    let clean : first_fault input count ≡ None = ap (first_fault input) (sym e) ∙ inv.clean in
     record {
       fault = (clean, inv.place ∙ ap (λ k. after input (3 + k)) e);
-      band = band_is input c.loop-i.band c.args.band.now c.loop-i.i _ (sound_all input c.args.count clean ∙ sym e) inv.front inv.back;
+      band = band_is input c.loop-i.band c.args.band.now c.loop-i.i _ (sound_all input count clean ∙ sym e) inv.front inv.back;
     }
