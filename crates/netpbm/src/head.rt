@@ -1,9 +1,10 @@
 // The numbers before the samples.
 ghost use Rattle.std.specs.Prelude.{◌≡◌, ◌≤◌, true, length, Some, MatchResult, IfOk};
-ghost use Rattle.netpbm.specs.Pgm.{told_by, begins, head_fault, HeadRead};
+ghost use Rattle.grid.specs.Limits.{Within};
+ghost use Rattle.netpbm.specs.Pgm.{told, told_by, begins, head_fault, HeadRead};
 
 use crate::fault::Fault;
-use crate::number::next_number;
+use crate::number::{Number, next_number};
 use grid::Size;
 use refusal::Refusal;
 
@@ -13,6 +14,13 @@ pub struct Head {
     pub size: Size,
     pub greatest: u8,
     pub end: usize,
+}
+
+// The size that two numbers of the file name. It refuses with 1, at no number, one outside the limits.
+fn size_of(rows: Number, columns: Number) -> Result<Size, Fault>
+    ensures { MatchResult result (λ s. (s.rows ≡ rows.value) × (s.columns ≡ columns.value)) (λ f. (told_by f ≡ told 1 0) × (Within rows.value columns.value → ⊥)) }
+{
+    Ok(Size::new(usize::from(rows.value), usize::from(columns.value))?)
 }
 
 // Reads columns, rows and the greatest sample, for a band of so many bytes. It refuses with 13 a number, then with 1 the size, then
@@ -26,7 +34,7 @@ pub(crate) fn read_head(input: &[u8], room: usize) -> Result<Head, Fault>
     let columns = next_number(input, 2)?;
     let rows = next_number(input, columns.end)?;
     let last = next_number(input, rows.end)?;
-    let size = Size::new(usize::from(rows.value), usize::from(columns.value))?;
+    let size = size_of(rows, columns)?;
     let greatest = last.within(1, 255)?;
     if room < size.squares() {
         return Err(Refusal::OutputTooShort.into());
