@@ -1,11 +1,11 @@
 -- The first fault among the samples, and the band up to it.
-use Rattle.std.proofs.Common.{◌≡◌, ℕ, zero, suc, ◌+◌, ◌<◌, false, cond, ◌&&◌, eqb, List, [], ◌∷◌, ◌++◌, map, length, get_or, take, drop, set, is_some, Some, None, Option, sym, refl, ap, ◌∙◌, ⊎_elim, add-one, arith}
+use Rattle.std.proofs.Common.{◌≡◌, ℕ, zero, suc, ◌+◌, ◌<◌, cond, List, [], ◌∷◌, ◌++◌, map, length, take, drop, set, is_some, Some, None, Option, sym, refl, ap, ◌∙◌, ⊎_elim, add-one, arith}
 use Rattle.std.specs.List.{range_with_len}
-use Rattle.std.proofs.lemmas.Bool.{cases_eq, and_right}
-use Rattle.std.proofs.lemmas.List.{take_more_set, drop-set-lt, drop-drop, take-append-drop, get_or_past}
+use Rattle.std.proofs.lemmas.Bool.{cases_eq}
+use Rattle.std.proofs.lemmas.List.{take_more_set, drop-set-lt, drop-drop, take-append-drop}
 use Rattle.std.proofs.lemmas.List.FromFn.{map-range_with_len_more}
-use Rattle.netpbm.specs.Words.{separator, after, stop, value_at}
-use Rattle.netpbm.specs.Pgm.{Told, or_else, begins, greatest_in, sample_fault, first_fault, sound, tone_of, tone_in, filled}
+use Rattle.netpbm.specs.Words.{after, stop, value_at}
+use Rattle.netpbm.specs.Pgm.{Told, or_else, greatest_in, sample_fault, first_fault, sound, tone_of, tone_in, filled}
 
 -- the fault of sample n
 abbrev pub fault_of : List ℕ → ℕ → Option Told
@@ -52,11 +52,6 @@ band_more input band old i v h is front back = (
 pub band_is : (input band old : List ℕ) (i n : ℕ) → n ≡ i → take i band ≡ map (tone_in input) (range_with_len 0 i) → drop i band ≡ drop i old → band ≡ filled input n old
 band_is input band old i n e front back =
     sym (take-append-drop i band) ∙ ap (λ l. l ++ drop i band) front ∙ ap (λ l. map (tone_in input) (range_with_len 0 i) ++ l) back ∙ ap (λ k. filled input k old) (sym e)
-
-pub short_begins : (input : List ℕ) → length input < 3 → begins input ≡ false
-short_begins input h =
-    and_right (eqb (get_or input 0 0) 80) (eqb (get_or input 1 0) 50 && separator (get_or input 2 0))
-    (and_right (eqb (get_or input 1 0) 50) (separator (get_or input 2 0)) (ap separator (get_or_past input 2 0 (omega arith))))
 
 -- what is read at the position of sample i: its fault, its tone, and where sample i + 1 is
 pub sample_fault_is : (input : List ℕ) (greatest at i : ℕ) → greatest ≡ greatest_in input → at ≡ after input (3 + i) → sample_fault input greatest at ≡ fault_of input i

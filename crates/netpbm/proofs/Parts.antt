@@ -1,8 +1,8 @@
 -- Lists written part by part.
 use Rattle.std.proofs.Common.{◌≡◌, ℕ, ◌+◌, ◌<◌, ◌≤◌, List, [], ◌∷◌, ◌++◌, length, get_or, take, drop, set, sym, refl, ap, ◌∙◌, arith, length-append, length-drop, rules}
 use borrow.Rule.Slice.PartMut.{put_mid, post_of}
-use Rattle.std.proofs.lemmas.List.{places, set_at, drop_more, drop_all, take_all, take_more_set, length-set, take-append-drop, take_at}
-use Rattle.std.proofs.lemmas.Slice.{take-put_mid, drop-put_mid, drop-append-drop}
+use Rattle.std.proofs.lemmas.List.{places, set_at, drop_more, drop_all, take_all, take_more_set, length-set, take_at}
+use Rattle.std.proofs.lemmas.Slice.{take-put_mid}
 
 -- what is left past all but the last
 pub last_one : (xs : List ℕ) (i k : ℕ) → length xs ≡ i + 1 → k ≡ i → post_of 0 k xs ≡ get_or xs i 0 ∷ []
@@ -52,15 +52,3 @@ headed xs fs ds es s f gap end j k three g e n ej ek =
     let u4 = front_part x4 _ es (gap + 1) k end (omega (arith, l4)) t4 e in
     let t5 = front_set p4 _ end (end + 1) f (omega (arith, m4)) u4 refl in
     sym (take_all (end + 1) (set p4 end f) (omega (arith, l5))) ∙ t5
-
--- a front and a part behind it, and what lies behind both
-pub two_parts : (xs ys zs : List ℕ) (s t j k : ℕ) → length ys ≡ s → j ≡ s → t ≡ s + length zs → k ≡ length zs → t ≤ length xs
-    → put_mid s k (ys ++ post_of 0 j xs) zs ≡ ys ++ zs ++ drop t xs
-two_parts xs ys zs s t j k ey ej et ek le =
-    let old = ys ++ post_of 0 j xs in
-    let new = put_mid s k old zs in
-    let l0 : length old ≡ length xs = length-append ys (drop j xs) ∙ omega (arith, length-drop j xs) in
-    let front : take t new ≡ ys ++ zs = front_part old ys zs s k t (omega (arith, l0)) (take_at ys (drop j xs) s ey) et in
-    let back : drop t new ≡ drop t xs =
-    drop-put_mid s k old zs t (omega arith) (omega (arith, l0)) (sym ek) ∙ drop-append-drop j xs ys t (omega arith) (ey ∙ sym ej) in
-    sym (take-append-drop t new) ∙ ap (λ l. l ++ drop t new) front ∙ ap (λ l. ys ++ zs ++ l) back
