@@ -1,5 +1,5 @@
 // The numbers before the samples.
-ghost use Rattle.std.specs.Prelude.{◌≡◌, ◌≤◌, true, length, Some, MatchResult, IfOk};
+ghost use Rattle.std.specs.Prelude.{◌≡◌, true, Some, MatchResult};
 ghost use Rattle.grid.specs.Limits.{Within};
 ghost use Rattle.netpbm.specs.Pgm.{told, told_by, begins, head_fault, HeadRead};
 
@@ -26,10 +26,8 @@ fn size_of(rows: Number, columns: Number) -> Result<Size, Fault>
 // Reads columns, rows and the greatest sample, for a band of so many bytes. It refuses with 13 a number, then with 1 the size, then
 // with 14 a greatest sample outside 1 to 255, then with 6 a band that is shorter than the drawing has squares.
 pub(crate) fn read_head(input: &[u8], room: usize) -> Result<Head, Fault>
-    requires long { 2 ≤ length input.now }
-    requires begun { begins input.now ≡ true }
-    ensures head { MatchResult result (λ h. HeadRead input.now room h.size.rows h.size.columns h.greatest h.end) (λ f. head_fault input.now room ≡ Some (told_by f)) }
-    ensures bound { IfOk result (λ h. h.end ≤ length input.now) }
+    requires { begins input.now ≡ true }
+    ensures { MatchResult result (λ h. HeadRead input.now room h.size.rows h.size.columns h.greatest h.end) (λ f. head_fault input.now room ≡ Some (told_by f)) }
 {
     let columns = next_number(input, 2)?;
     let rows = next_number(input, columns.end)?;

@@ -1,6 +1,6 @@
 // The numbers of a plain PGM, each read from an offset of the input on. No reader moves along the input, since each of its contracts would
 // have to say that the input stays as it was.
-ghost use Rattle.std.specs.Prelude.{◌≡◌, ◌≤◌, ◌&&◌, false, true, length, Some, MatchResult, IfOk, nat_le};
+ghost use Rattle.std.specs.Prelude.{◌≡◌, ◌≤◌, ◌&&◌, false, length, drop, Some, MatchResult, nat_le};
 ghost use Rattle.netpbm.specs.Words.{start, capped, spelled, word_from, Spells};
 ghost use Rattle.netpbm.specs.Pgm.{told, told_by, number_fault};
 
@@ -17,13 +17,18 @@ pub struct Number {
     pub end: usize,
 }
 
+// The bytes from an offset on; none behind the end.
+fn rest(input: &[u8], at: usize) -> &[u8]
+    ensures { result.now ≡ drop at input.now }
+{
+    input.get(at..).unwrap_or(&[])
+}
+
 // Where the next word begins, behind the separators.
 fn start(input: &[u8], at: usize) -> usize
-    requires { at ≤ length input.now }
-    ensures value { result ≡ start input.now at }
-    ensures bound { result ≤ length input.now }
+    ensures { result ≡ start input.now at }
 {
-    at + input[at..]
+    at + rest(input, at)
         .iter()
         .take_while(|byte| is_separator(**byte))
         .count()
@@ -51,19 +56,17 @@ fn spelled(word: &[u8]) -> Option<u16>
 
 // The next number. It refuses with 13 one that is missing, malformed or above 65,535, and tells where it begins or should.
 pub(crate) fn next_number(input: &[u8], at: usize) -> Result<Number, Fault>
-    requires { at ≤ length input.now }
-    ensures value { MatchResult result (λ n. Spells input.now at n.value n.offset n.end) (λ f. number_fault input.now at ≡ Some (told_by f)) }
-    ensures bound { IfOk result (λ n. n.end ≤ length input.now) }
+    ensures { MatchResult result (λ n. Spells input.now at n.value n.offset n.end) (λ f. number_fault input.now at ≡ Some (told_by f)) }
 {
     let offset = start(input, at);
     let fault = Fault {
         refusal: Refusal::NotANumber,
         offset,
     };
-    if offset == input.len() {
+    if offset >= input.len() {
         return Err(fault);
     }
-    let word = word_from(&input[offset..]);
+    let word = word_from(rest(input, offset));
     let value = spelled(word).ok_or(fault)?;
     let end = offset + word.len();
     Ok(Number { value, offset, end })

@@ -1,5 +1,5 @@
 // Read: a drawing from a plain PGM without comments.
-ghost use Rattle.std.specs.Prelude.{◌≡◌, ◌≤◌, true, length, Some, MatchResult};
+ghost use Rattle.std.specs.Prelude.{◌≡◌, length, Some, MatchResult};
 ghost use Rattle.netpbm.specs.Pgm.{told_by, begins, read_fault, DrawingRead, tones_read, filled};
 
 use crate::fault::Fault;
@@ -18,8 +18,7 @@ pub struct Picture {
 
 // Whether the input begins with P2 and a separator.
 fn does_begin(input: &[u8]) -> bool
-    ensures value { result ≡ begins input.now }
-    ensures long { result ≡ true → 3 ≤ length input.now }
+    ensures { result ≡ begins input.now }
 {
     matches!(input, [b'P', b'2', third, ..] if is_separator(*third))
 }

@@ -1,5 +1,5 @@
 // The samples of a plain PGM, and the tones that they stand for.
-ghost use Rattle.std.specs.Prelude.{◌≡◌, ◌+◌, ◌*◌, ◌≤◌, length, Some, None, MatchResult, IfOk};
+ghost use Rattle.std.specs.Prelude.{◌≡◌, ◌+◌, ◌*◌, ◌≤◌, length, Some, None, MatchResult};
 ghost use Rattle.netpbm.specs.Words.{after};
 ghost use Rattle.netpbm.specs.Pgm.{told_by, tone_of, sample_fault, SampleRead, first_fault, sound, greatest_in, filled};
 
@@ -23,9 +23,7 @@ fn tone_of(sample: u8) -> u8
 
 // The next sample. It refuses with 13 as any number is refused, then with 14 a sample above the greatest.
 fn read_sample(input: &[u8], at: usize, greatest: u8) -> Result<Sample, Fault>
-    requires { at ≤ length input.now }
-    ensures value { MatchResult result (λ s. SampleRead input.now greatest at s.value s.end) (λ f. sample_fault input.now greatest at ≡ Some (told_by f)) }
-    ensures bound { IfOk result (λ s. s.end ≤ length input.now) }
+    ensures { MatchResult result (λ s. SampleRead input.now greatest at s.value s.end) (λ f. sample_fault input.now greatest at ≡ Some (told_by f)) }
 {
     let number = next_number(input, at)?;
     Ok(Sample {
@@ -36,7 +34,6 @@ fn read_sample(input: &[u8], at: usize, greatest: u8) -> Result<Sample, Fault>
 
 // Reads a sample for each square into the front of the band, up to the first one at fault, and answers the offset behind the last.
 pub(crate) fn read_samples(input: &[u8], head: Head, band: &mut [u8]) -> Result<usize, Fault>
-    requires bound { head.end ≤ length input.now }
     requires position { head.end ≡ after input.now 3 }
     requires greatest { head.greatest ≡ greatest_in input.now }
     requires room { head.size.rows * head.size.columns ≤ length band.old }

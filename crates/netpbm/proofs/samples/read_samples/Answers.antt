@@ -7,19 +7,18 @@ use Rattle.netpbm.proofs.samples.read_samples.Goals as goal
 
 pub loop-i-init : goal.loop-i-init
 unfolding first_fault
-loop-i-init c = record { inside = c.requires.bound; place = c.requires.position; clean = refl; front = refl; back = refl }
+loop-i-init c = record { place = c.requires.position; clean = refl; front = refl; back = refl }
 
 pub loop-i-preserved : goal.loop-i-preserved
 loop-i-preserved c =
     let input = c.args.input.now in
     let i = c.loop-i.i in
     let inv = c.loop-i.invariant in
-    let got = c.in_ok-sample.ensures.value in
+    let got = c.in_ok-sample.ensures in
     let good : fault_of input i ≡ None = sym (sample_fault_is input _ _ i c.requires.greatest inv.place) ∙ got.0 in
     let is = tone_is input _ i _ c.tone_of.result inv.place got.1 c.tone_of.ensures in
     let more = band_more input c.loop-i.band c.args.band.now i c.tone_of.result (omega arith) is inv.front inv.back in
     record {
-      inside = c.in_ok-sample.ensures.bound;
       place = next_is input _ i _ inv.place got.2;
       clean = fault_more input i None inv.clean good;
       front = more.0;
@@ -32,7 +31,7 @@ returns-in_err-sample c =
     let i = c.loop-i.i in
     let inv = c.loop-i.invariant in
     let count = c.args.head.size.rows * c.args.head.size.columns in
-    let bad = sym (sample_fault_is input _ _ i c.requires.greatest inv.place) ∙ c.in_err-sample.ensures.value in
+    let bad = sym (sample_fault_is input _ _ i c.requires.greatest inv.place) ∙ c.in_err-sample.ensures in
     let stays = fault_stays input i _ inv.clean bad count (omega arith) in
     let p = err_from_is_err_and c.from_residual.result c.from_residual.ensures.1 in
     record { fault = rw (p.1, p.2) stays.0; band = band_is input c.loop-i.band c.args.band.now i _ stays.1 inv.front inv.back }

@@ -1,4 +1,4 @@
-use Rattle.std.proofs.Common.{◌≡◌, ◌+◌, ◌≤◌, length, map, take, drop, None}
+use Rattle.std.proofs.Common.{◌≡◌, ◌+◌, map, take, drop, None}
 use Rattle.std.specs.List.{range_with_len}
 use Rattle.netpbm.specs.Words.{after}
 use Rattle.netpbm.specs.Pgm.{first_fault, tone_in}
@@ -7,7 +7,6 @@ use Rattle.netpbm.proofs.samples.read_samples.Given as goal
 abbrev pub invariant-loop-i : goal.invariant-loop-i
 invariant-loop-i l =
     record {
-      inside : l.at ≤ length l.input;
       place : l.at ≡ after l.input (3 + l.i);
       clean : first_fault l.input l.i ≡ None;
       front : take l.i l.band ≡ map (tone_in l.input) (range_with_len 0 l.i);
