@@ -1,5 +1,5 @@
 -- Packed bits, read again by division.
-use Rattle.std.proofs.Common.{◌≡◌, ℕ, zero, suc, ◌+◌, ◌-◌, ◌*◌, ◌/◌, ◌%◌, ◌^◌, ◌<◌, ◌≤◌, Bool, cond, ◌&&◌, ltb, List, length, get_or, drop, sym, ap, ◌∙◌, add-zero, mul_comm, pow-suc, arith, length-drop}
+use Rattle.std.proofs.Common.{◌≡◌, ℕ, zero, suc, ◌+◌, ◌-◌, ◌*◌, ◌/◌, ◌%◌, ◌^◌, ◌<◌, ◌≤◌, Bool, ltb, List, length, get_or, drop, sym, refl, ap, ◌∙◌, add-zero, mul_comm, pow-suc, arith, length-drop}
 use native.Mathlib.Nat.{div-div-eq-div-mul}
 use Rattle.std.proofs.lemmas.List.{get_or-drop}
 use Rattle.std.proofs.lemmas.List.FromFn.{get_or-map-range_with_len}
@@ -27,7 +27,7 @@ bit_at-drop : (marks : ℕ → Bool) (codes : List ℕ) (m j : ℕ) → bit_at m
 bit_at-drop marks codes m j =
     let long = length-drop m codes in
     let same : ltb j (length (drop m codes)) ≡ ltb (m + j) (length codes) = grind (arith, nat_tests) in
-    ap (λ t. cond (t && marks (get_or (drop m codes) j 0)) 1 0) same ∙ ap (λ x. cond (ltb (m + j) (length codes) && marks x) 1 0) (get_or-drop m codes j 0)
+    rw (same, get_or-drop m codes j 0) refl
 
 pub bit_kept : (marks : ℕ → Bool) (n : ℕ) (codes : List ℕ) (k : ℕ) → k < 8 * n → bit_in (packed marks n codes) k ≡ bit_at marks codes k
 bit_kept marks n codes k h =

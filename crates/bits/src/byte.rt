@@ -6,18 +6,14 @@ use crate::mark::Mark;
 
 // The bit of the code at k; 0 where there is no code.
 fn bit_at<M: Mark>(codes: &[u8], k: usize) -> u8
-    ensures { result ≡ bit_at M.Mark.marks codes.now k }
+    ensures { result ≡ bit_at M.marks codes.now k }
 {
-    if k < codes.len() && M::is_marked(codes[k]) {
-        1
-    } else {
-        0
-    }
+    u8::from(codes.get(k).is_some_and(|code| M::is_marked(*code)))
 }
 
 // The bits of the first eight codes as a byte, the first code's bit highest; 0 for each code that is lacking.
 pub fn pack_byte<M: Mark>(codes: &[u8]) -> u8
-    ensures { result ≡ byte_of M.Mark.marks codes.now }
+    ensures { result ≡ byte_of M.marks codes.now }
 {
     let mut byte: u8 = 0;
     for k in 0..8usize {

@@ -2,7 +2,8 @@
 ghost use Rattle.std.specs.Prelude.{◌≡◌, ℕ, Bool};
 ghost use Rattle.bits.specs.Bits.{black, fixed};
 
-// A test of codes; its meaning is the function `marks`.
+// A test of codes. It is a trait and no closure, since a contract names its meaning, the function `marks`, where of a closure it could only
+// say which results its calls may have.
 pub trait Mark {
     ghost marks: { ℕ → Bool };
 

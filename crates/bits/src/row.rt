@@ -9,16 +9,14 @@ use crate::mark::Mark;
 fn codes_from(codes: &[u8], groups: usize) -> &[u8]
     ensures { result.now ≡ drop (8 * groups) codes.now }
 {
-    if groups > codes.len() / 8 {
-        return &codes[codes.len()..];
-    }
-    &codes[8 * groups..]
+    codes.get(groups.saturating_mul(8)..).unwrap_or(&[])
 }
 
 // Fills the output with the bits of the codes, eight to a byte and high bit first; where the codes end, the bits are 0.
 pub fn pack_row<M: Mark>(codes: &[u8], out: &mut [u8])
-    ensures { out.new ≡ packed M.Mark.marks (length out.old) codes.now }
+    ensures { out.new ≡ packed M.marks (length out.old) codes.now }
 {
+    // by index, since of what is written through `iter_mut` a proof knows the length and no byte
     for b in 0..out.len() {
         out[b] = pack_byte::<M>(codes_from(codes, b));
     }

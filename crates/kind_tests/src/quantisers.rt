@@ -34,8 +34,8 @@ fn palette_takes_the_lower_of_equals(rt: HostRuntime) {
     assert_eq!(rt; palette.choose(colour(127, 0, 0)), 0);
     assert_eq!(rt; palette.choose(colour(128, 0, 0)), 1);
     assert_eq!(rt; palette.choose(colour(i32::MIN, i32::MIN, i32::MIN)), 0);
-    assert_eq!(rt; palette.output(1).red, grey(254));
-    assert_eq!(rt; palette.output(2).red, grey(0));
+    assert_eq!(rt; palette.output(1), colour(254, 0, 0));
+    assert_eq!(rt; palette.output(2), colour(0, 0, 0));
 }
 
 #[test]
@@ -57,16 +57,17 @@ fn side_by_side_joins_codes(rt: HostRuntime) -> Result<(), Fail> {
     assert_eq!(rt; palette.write(&[0, 0, 0, 9, 0, 0, 99, 0, 0]), Ok(()));
     let both = SideBySide::new(Threshold { least: 128 }, palette)?;
     assert_eq!(rt; both.count(), 6);
-    assert_eq!(rt;
-        both.choose(Pair {
-            first: grey(200),
-            second: colour(90, 0, 0),
-        }),
-        5
-    );
-    assert_eq!(rt; both.output(5).first, grey(255));
-    assert_eq!(rt; both.output(5).second.red, grey(99));
-    assert_eq!(rt; both.output(7).first, grey(0));
+    let tone = Pair {
+        first: grey(200),
+        second: colour(90, 0, 0),
+    };
+    assert_eq!(rt; both.choose(tone), 5);
+    let net = Pair {
+        first: grey(255),
+        second: colour(99, 0, 0),
+    };
+    assert_eq!(rt; both.output(5), net);
+    assert_eq!(rt; both.output(7), Pair::zero());
     Ok(())
 }
 

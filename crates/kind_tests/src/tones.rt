@@ -5,6 +5,18 @@ fn grey(value: i32) -> Grey {
     Grey { value }
 }
 
+fn pair<L, R>(first: L, second: R) -> Pair<L, R> {
+    Pair { first, second }
+}
+
+fn colour(red: i32, green: i32, blue: i32) -> Colour {
+    Colour {
+        red: grey(red),
+        green: grey(green),
+        blue: grey(blue),
+    }
+}
+
 #[test]
 fn shares_are_cut_toward_zero(rt: HostRuntime) {
     assert_eq!(rt; grey(-5).share(2, 3), grey(-3));
@@ -30,35 +42,20 @@ fn sums_wrap(rt: HostRuntime) {
 
 #[test]
 fn pairs_of_pairs_go_half_by_half(rt: HostRuntime) {
-    let four = Pair {
-        first: Pair {
-            first: grey(1),
-            second: grey(-2),
-        },
-        second: Pair {
-            first: grey(30),
-            second: grey(-31),
-        },
-    };
-    let twice = four.sum(four);
-    assert_eq!(rt; twice.first.second, grey(-4));
-    assert_eq!(rt; twice.second.first, grey(60));
-    let part = four.share(2, 3);
-    assert_eq!(rt; part.first.first, grey(0));
-    assert_eq!(rt; part.first.second, grey(-1));
-    assert_eq!(rt; part.second.second, grey(-20));
+    let four = pair(pair(grey(1), grey(-2)), pair(grey(30), grey(-31)));
+    assert_eq!(rt;
+        four.sum(four),
+        pair(pair(grey(2), grey(-4)), pair(grey(60), grey(-62)))
+    );
+    assert_eq!(rt;
+        four.share(2, 3),
+        pair(pair(grey(0), grey(-1)), pair(grey(20), grey(-20)))
+    );
 }
 
 #[test]
 fn colours_go_channel_by_channel(rt: HostRuntime) {
-    let colour = Colour {
-        red: grey(9),
-        green: grey(-9),
-        blue: grey(4),
-    };
-    let part = colour.share(1, 4);
-    assert_eq!(rt; part.red, grey(2));
-    assert_eq!(rt; part.green, grey(-2));
-    assert_eq!(rt; part.blue, grey(1));
-    assert_eq!(rt; Colour::zero().difference(colour).green, grey(9));
+    let whole = colour(9, -9, 4);
+    assert_eq!(rt; whole.share(1, 4), colour(2, -2, 1));
+    assert_eq!(rt; Colour::zero().difference(whole), colour(-9, 9, -4));
 }

@@ -1,11 +1,11 @@
 -- The first fault among the samples, and the band up to it.
-use Rattle.std.proofs.Common.{◌≡◌, ℕ, zero, suc, ◌+◌, ◌<◌, false, cond, ◌&&◌, eqb, List, [], ◌∷◌, ◌++◌, map, length, get_or, take, drop, set, is_some, Some, None, Option, sym, refl, ap, ◌∙◌, ⊎_elim, add-one, arith}
+use Rattle.std.proofs.Common.{◌≡◌, ℕ, zero, suc, ◌+◌, ◌<◌, cond, List, [], ◌∷◌, ◌++◌, map, length, take, drop, set, is_some, Some, None, Option, sym, refl, ap, ◌∙◌, ⊎_elim, add-one, arith}
 use Rattle.std.specs.List.{range_with_len}
-use Rattle.std.proofs.lemmas.Bool.{cases_eq, and_right}
-use Rattle.std.proofs.lemmas.List.{take_more_set, drop-set-lt, drop-drop, take-append-drop, get_or_past}
+use Rattle.std.proofs.lemmas.Bool.{cases_eq}
+use Rattle.std.proofs.lemmas.List.{take_more_set, drop-set-lt, drop-drop, take-append-drop}
 use Rattle.std.proofs.lemmas.List.FromFn.{map-range_with_len_more}
-use Rattle.netpbm.specs.Words.{separator, after, stop, value_at}
-use Rattle.netpbm.specs.Pgm.{Told, or_else, begins, greatest_in, sample_fault, first_fault, sound, tone_of, tone_in, filled}
+use Rattle.netpbm.specs.Words.{after, stop, value_at}
+use Rattle.netpbm.specs.Pgm.{Told, or_else, greatest_in, sample_fault, first_fault, sound, tone_of, tone_in, filled}
 
 -- the fault of sample n
 abbrev pub fault_of : List ℕ → ℕ → Option Told
@@ -53,20 +53,14 @@ pub band_is : (input band old : List ℕ) (i n : ℕ) → n ≡ i → take i ban
 band_is input band old i n e front back =
     sym (take-append-drop i band) ∙ ap (λ l. l ++ drop i band) front ∙ ap (λ l. map (tone_in input) (range_with_len 0 i) ++ l) back ∙ ap (λ k. filled input k old) (sym e)
 
-pub short_begins : (input : List ℕ) → length input < 3 → begins input ≡ false
-short_begins input h =
-    and_right (eqb (get_or input 0 0) 80) (eqb (get_or input 1 0) 50 && separator (get_or input 2 0))
-    (and_right (eqb (get_or input 1 0) 50) (separator (get_or input 2 0)) (ap separator (get_or_past input 2 0 (omega arith))))
+-- what is read at the position of sample i: its fault, its tone, and where sample i + 1 is
+pub sample_fault_is : (input : List ℕ) (greatest at i : ℕ) → greatest ≡ greatest_in input → at ≡ after input (3 + i) → sample_fault input greatest at ≡ fault_of input i
+sample_fault_is input greatest at i g p = rw (g, p) refl
 
-pub sample_fault_is : (xs ys : List ℕ) (g m p q : ℕ) → xs ≡ ys → g ≡ m → p ≡ q → sample_fault xs g p ≡ sample_fault ys m q
-sample_fault_is xs ys g m p q a b c = ap (λ l. sample_fault l g p) a ∙ ap (λ n. sample_fault ys n p) b ∙ ap (λ n. sample_fault ys m n) c
+pub tone_is : (input : List ℕ) (at i value tone : ℕ) → at ≡ after input (3 + i) → value ≡ value_at input at → tone ≡ tone_of value → tone ≡ tone_in input i
+tone_is input at i value tone p v t = t ∙ v ∙ ap (value_at input) p
 
--- the tone made of the number that stands next
-pub tone_is : (xs ys : List ℕ) (p i v t : ℕ) → xs ≡ ys → p ≡ after ys (3 + i) → v ≡ value_at xs p → t ≡ tone_of v → t ≡ tone_in ys i
-tone_is xs ys p i v t a b c d = d ∙ ap tone_of c ∙ ap (λ l. tone_of (value_at l p)) a ∙ ap (λ n. tone_of (value_at ys n)) b
-
--- behind sample i comes sample i + 1
-pub next_is : (xs ys : List ℕ) (p i q : ℕ) → xs ≡ ys → p ≡ after ys (3 + i) → q ≡ stop xs p → q ≡ after ys (3 + (i + 1))
-next_is xs ys p i q a b c =
+pub next_is : (input : List ℕ) (at i end : ℕ) → at ≡ after input (3 + i) → end ≡ stop input at → end ≡ after input (3 + (i + 1))
+next_is input at i end p e =
     let next : suc (3 + i) ≡ 3 + (i + 1) = omega arith in
-    c ∙ ap (λ l. stop l p) a ∙ ap (stop ys) b ∙ ap (after ys) next
+    e ∙ ap (stop input) p ∙ ap (after input) next

@@ -1,4 +1,5 @@
 pub mod Accepted
+pub mod FirstCode
 pub mod Faults
 pub mod HeaderLength
 pub mod Numbers
@@ -6,5 +7,6 @@ pub mod Parts
 pub mod ReadBack
 pub mod Refusing
 pub mod Rows
+pub mod Spelling
 pub mod Squares
 pub mod Words

@@ -1,8 +1,8 @@
 -- Lists written part by part.
 use Rattle.std.proofs.Common.{◌≡◌, ℕ, ◌+◌, ◌<◌, ◌≤◌, List, [], ◌∷◌, ◌++◌, length, get_or, take, drop, set, sym, refl, ap, ◌∙◌, arith, length-append, length-drop, rules}
 use borrow.Rule.Slice.PartMut.{put_mid, post_of}
-use Rattle.std.proofs.lemmas.List.{places, set_at, drop_more, drop_all, take_all, take_more_set, length-set, take-append-drop, take_at}
-use Rattle.std.proofs.lemmas.Slice.{take-put_mid, drop-put_mid, drop-append-drop}
+use Rattle.std.proofs.lemmas.List.{places, set_at, drop_more, drop_all, take_all, take_more_set, length-set, take_at}
+use Rattle.std.proofs.lemmas.Slice.{take-put_mid}
 
 -- what is left past all but the last
 pub last_one : (xs : List ℕ) (i k : ℕ) → length xs ≡ i + 1 → k ≡ i → post_of 0 k xs ≡ get_or xs i 0 ∷ []
@@ -22,12 +22,6 @@ set_only [] v long = let z : ◌≡◌ {A = ℕ} 0 1 = long in absurd (omega ari
 set_only (x ∷ []) v long = refl
 set_only (x ∷ (y ∷ xs)) v long = absurd (omega (arith, long))
 
-first_three : (xs : List ℕ) (a b c : ℕ) → 3 ≤ length xs → take 3 (set (set (set xs 0 a) 1 b) 2 c) ≡ a ∷ b ∷ c ∷ []
-first_three [] a b c h = absurd (omega (arith, h))
-first_three (x ∷ []) a b c h = absurd (omega (arith, h))
-first_three (x ∷ (y ∷ [])) a b c h = absurd (omega (arith, h))
-first_three (x ∷ (y ∷ (z ∷ xs))) a b c h = refl
-
 pub length-put_mid : (a k : ℕ) (xs ys : List ℕ) → a + k ≤ length xs → length ys ≡ k → length (put_mid a k xs ys) ≡ length xs
 length-put_mid a k xs ys h e = search (rules, places)
 
@@ -39,13 +33,12 @@ pub front_part : (xs ys zs : List ℕ) (a k n : ℕ) → a ≤ length xs → tak
 front_part xs ys zs a k n h e at = take-put_mid a k xs zs n at h ∙ ap (λ l. l ++ zs) e
 
 -- three bytes, a part, a byte, a part and a byte fill the list
-pub headed : (xs ds es : List ℕ) (a b c s f gap end j k : ℕ)
-    → gap ≡ 3 + length ds → end ≡ gap + 1 + length es → length xs ≡ end + 1 → j ≡ length ds → k ≡ length es
-    → set (put_mid (gap + 1) k (set (put_mid 3 j (set (set (set xs 0 a) 1 b) 2 c) ds) gap s) es) end f
-    ≡ (a ∷ b ∷ c ∷ []) ++ ds ++ (s ∷ []) ++ es ++ (f ∷ [])
-headed xs ds es a b c s f gap end j k g e n ej ek =
-    let x3 = set (set (set xs 0 a) 1 b) 2 c in
-    let l3 : length x3 ≡ length xs = simp length-set in
+pub headed : (xs fs ds es : List ℕ) (s f gap end j k : ℕ)
+    → length fs ≡ 3 → gap ≡ 3 + length ds → end ≡ gap + 1 + length es → length xs ≡ end + 1 → j ≡ length ds → k ≡ length es
+    → set (put_mid (gap + 1) k (set (put_mid 3 j (fs ++ drop 3 xs) ds) gap s) es) end f ≡ fs ++ ds ++ (s ∷ []) ++ es ++ (f ∷ [])
+headed xs fs ds es s f gap end j k three g e n ej ek =
+    let x3 = fs ++ drop 3 xs in
+    let l3 : length x3 ≡ length xs = length-append fs (drop 3 xs) ∙ omega (arith, length-drop 3 xs) in
     let p3 = put_mid 3 j x3 ds in
     let m3 : length p3 ≡ length xs = length-put_mid 3 j x3 ds (omega (arith, l3)) (omega arith) ∙ l3 in
     let x4 = set p3 gap s in
@@ -53,21 +46,9 @@ headed xs ds es a b c s f gap end j k g e n ej ek =
     let p4 = put_mid (gap + 1) k x4 es in
     let m4 : length p4 ≡ length xs = length-put_mid (gap + 1) k x4 es (omega (arith, l4)) (omega arith) ∙ l4 in
     let l5 : length (set p4 end f) ≡ length xs = length-set p4 end f ∙ m4 in
-    let t3 = first_three xs a b c (omega arith) in
+    let t3 = take_at fs (drop 3 xs) 3 three in
     let u3 = front_part x3 _ ds 3 j gap (omega (arith, l3)) t3 g in
     let t4 = front_set p3 _ gap (gap + 1) s (omega (arith, m3)) u3 refl in
     let u4 = front_part x4 _ es (gap + 1) k end (omega (arith, l4)) t4 e in
     let t5 = front_set p4 _ end (end + 1) f (omega (arith, m4)) u4 refl in
     sym (take_all (end + 1) (set p4 end f) (omega (arith, l5))) ∙ t5
-
--- a front and a part behind it, and what lies behind both
-pub two_parts : (xs ys zs : List ℕ) (s t j k : ℕ) → length ys ≡ s → j ≡ s → t ≡ s + length zs → k ≡ length zs → t ≤ length xs
-    → put_mid s k (ys ++ post_of 0 j xs) zs ≡ ys ++ zs ++ drop t xs
-two_parts xs ys zs s t j k ey ej et ek le =
-    let old = ys ++ post_of 0 j xs in
-    let new = put_mid s k old zs in
-    let l0 : length old ≡ length xs = length-append ys (drop j xs) ∙ omega (arith, length-drop j xs) in
-    let front : take t new ≡ ys ++ zs = front_part old ys zs s k t (omega (arith, l0)) (take_at ys (drop j xs) s ey) et in
-    let back : drop t new ≡ drop t xs =
-    drop-put_mid s k old zs t (omega arith) (omega (arith, l0)) (sym ek) ∙ drop-append-drop j xs ys t (omega arith) (ey ∙ sym ej) in
-    sym (take-append-drop t new) ∙ ap (λ l. l ++ drop t new) front ∙ ap (λ l. ys ++ zs ++ l) back

@@ -2,7 +2,7 @@
 use Rattle.std.proofs.Common.{◌≡◌, ℕ, zero, suc, ◌+◌, ◌*◌, ◌<◌, ◌≤◌, List, [], ◌∷◌, ◌++◌, length, take, drop, sym, ap, ◌∙◌, add-mul, arith, length-append, length-drop}
 use borrow.Rule.Slice.PartMut.{put_mid}
 use Rattle.std.specs.List.{range_with_len, flat_map}
-use Rattle.std.proofs.lemmas.List.{map-id, flat_map_more, length-take-le, take_all}
+use Rattle.std.proofs.lemmas.List.{map-id, flat_map_more, length-take-le}
 use Rattle.std.proofs.lemmas.List.FromFn.{map-range_with_len_more}
 use Rattle.std.proofs.lemmas.Nat.{mul-le}
 use Rattle.bits.specs.Bits.{packed, bytes_for, black}
@@ -47,8 +47,3 @@ row_written out row codes r rows columns w j k h e long ej ek before is =
     front_part out (raster r columns codes) row (r * w) j ((r + 1) * w) (omega arith) before
     (omega (arith, add-mul r 1 w, ap length same, length-packed black (bytes_for columns) (row_of columns codes r)))
     ∙ ap (λ l. raster r columns codes ++ l) same ∙ sym (raster_more r columns codes)
-
--- all rows fill the output
-pub rows_fill : (out codes : List ℕ) (r rows columns w : ℕ) → r ≡ rows → length out ≡ rows * w → take (r * w) out ≡ raster r columns codes → out ≡ raster rows columns codes
-rows_fill out codes r rows columns w e long all =
-    sym (take_all (rows * w) out (omega arith)) ∙ ap (λ n. take (n * w) out) (sym e) ∙ all ∙ ap (λ n. raster n columns codes) e

@@ -1,27 +1,18 @@
 -- Words of the input, byte by byte, and the numbers that they spell.
-use Rattle.std.proofs.Common.{◌≡◌, ℕ, ◌+◌, ◌-◌, ◌*◌, ◌<◌, ◌≤◌, Bool, true, false, cond, List, [], ◌∷◌, length, get_or, drop, Some, None, Option, refl, ap, ◌∙◌, ⊎_elim, arith}
-use Rattle.std.proofs.lemmas.List.Sums.{prefix_len-drop_yes, prefix_len-drop_no, prefix_len-drop_all}
-use Rattle.std.proofs.lemmas.List.{at_drop_more, at_drop_all}
+use Rattle.std.proofs.Common.{◌≡◌, ℕ, suc, sym, ◌+◌, ◌-◌, ◌*◌, ◌<◌, ◌≤◌, Bool, true, false, cond, List, [], ◌∷◌, take, not, Some, None, Option, refl, ap, ◌∙◌, ⊎_elim, arith}
+use Rattle.std.specs.List.{prefix_len}
 use Rattle.std.proofs.lemmas.Bool.{lt-leb, le-leb, cases_Bool}
-use Rattle.netpbm.specs.Words.{separator, start, word_from, spelled, capped, digit}
+use Rattle.netpbm.specs.Words.{separator, word_from, spelled, capped, digit}
 
-pub start_yes : (input : List ℕ) (at : ℕ) → at < length input → separator (get_or input at 0) ≡ true → start input (at + 1) ≡ start input at
-start_yes input at h w = omega (arith, prefix_len-drop_yes separator input at 0 h w)
-
-pub start_no : (input : List ℕ) (at : ℕ) → at < length input → separator (get_or input at 0) ≡ false → start input at ≡ at
-start_no input at h w = omega (arith, prefix_len-drop_no separator input at 0 h w)
-
-pub start_end : (input : List ℕ) (at : ℕ) → length input ≤ at → start input at ≡ at
-start_end input at h = omega (arith, prefix_len-drop_all separator input at h)
-
-pub word_ended : (xs : List ℕ) (i : ℕ) → i < length xs → separator (get_or xs i 0) ≡ true → word_from (drop i xs) ≡ []
-word_ended xs i h w = at_drop_more word_from xs i 0 h ∙ ap (λ b. cond b [] (get_or xs i 0 ∷ word_from (drop (i + 1) xs))) w
-
-pub word_more : (xs : List ℕ) (i : ℕ) → i < length xs → separator (get_or xs i 0) ≡ false → word_from (drop i xs) ≡ get_or xs i 0 ∷ word_from (drop (i + 1) xs)
-word_more xs i h w = at_drop_more word_from xs i 0 h ∙ ap (λ b. cond b [] (get_or xs i 0 ∷ word_from (drop (i + 1) xs))) w
-
-pub word_end : (xs : List ℕ) (i : ℕ) → length xs ≤ i → word_from (drop i xs) ≡ []
-word_end xs i h = at_drop_all word_from xs i h
+-- a word is the bytes that are no separators at the front
+pub word_is : (bytes : List ℕ) → word_from bytes ≡ take (prefix_len (λ b. not (separator b)) bytes) bytes
+word_is [] = refl
+word_is (b ∷ bs) = step (separator b) (word_is bs)
+  where
+    step : (t : Bool) → word_from bs ≡ take (prefix_len (λ b. not (separator b)) bs) bs
+        → cond t [] (b ∷ word_from bs) ≡ take (cond (not t) (1 + prefix_len (λ b. not (separator b)) bs) 0) (b ∷ bs)
+    step true e = refl
+    step false e = let n : 1 + prefix_len (λ b. not (separator b)) bs ≡ suc (prefix_len (λ b. not (separator b)) bs) = omega arith in ap (λ l. b ∷ l) e ∙ ap (λ k. take k (b ∷ bs)) (sym n)
 
 pub spelled-digit : (n b : ℕ) (bs : List ℕ) → digit b ≡ true → spelled n (b ∷ bs) ≡ spelled (n * 10 + (b - 48)) bs
 spelled-digit n b bs d = ap (λ t. cond t (spelled (n * 10 + (b - 48)) bs) None) d

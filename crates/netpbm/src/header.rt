@@ -19,9 +19,7 @@ pub(crate) fn put_header(rows: usize, columns: usize, out: &mut [u8])
 {
     let gap = digit_count(columns) + 3;
     let end = gap + 1 + digit_count(rows);
-    out[0] = b'P';
-    out[1] = b'4';
-    out[2] = b'\n';
+    out[..3].copy_from_slice(b"P4\n");
     put_decimal(columns, &mut out[3..gap]);
     out[gap] = b' ';
     put_decimal(rows, &mut out[gap + 1..end]);

@@ -22,7 +22,7 @@ pub fn pack(size: &Size, codes: &[u8], out: &mut [u8]) -> Result<usize, Refusal>
         return Err(Refusal::OutputTooShort);
     }
     check_codes(codes)?;
-    put_header(size.rows, size.columns, &mut out[0..start]);
+    put_header(size.rows, size.columns, &mut out[..start]);
     put_raster(size, codes, &mut out[start..total]);
     Ok(total)
 }

@@ -11,7 +11,7 @@ pub(crate) fn row_bytes(columns: usize) -> usize
     requires { columns ≤ 4096 }
     ensures { result ≡ bytes_for columns }
 {
-    (columns + 7) / 8
+    columns.div_ceil(8)
 }
 
 // Fills an output of just that length with the rows in order, each in a part of its own.
@@ -22,6 +22,7 @@ pub(crate) fn put_raster(size: &Size, codes: &[u8], out: &mut [u8])
 {
     let columns = size.columns;
     let width = row_bytes(columns);
+    // by row and index, since of what is written through `chunks_exact_mut` a proof knows the length and no byte
     for row in 0..size.rows {
         let from = row * columns;
         let to = row * width;

@@ -1,10 +1,9 @@
 // Read: a drawing from a plain PGM without comments.
-ghost use Rattle.std.specs.Prelude.{◌≡◌, ◌≤◌, true, length, Some, MatchResult};
+ghost use Rattle.std.specs.Prelude.{◌≡◌, length, Some, MatchResult};
 ghost use Rattle.netpbm.specs.Pgm.{told_by, begins, read_fault, DrawingRead, tones_read, filled};
 
 use crate::fault::Fault;
 use crate::head::read_head;
-use crate::reader::Reader;
 use crate::samples::read_samples;
 use crate::separator::is_separator;
 use grid::Size;
@@ -19,19 +18,9 @@ pub struct Picture {
 
 // Whether the input begins with P2 and a separator.
 fn does_begin(input: &[u8]) -> bool
-    ensures value { result ≡ begins input.now }
-    ensures long { result ≡ true → 3 ≤ length input.now }
+    ensures { result ≡ begins input.now }
 {
-    if input.len() < 3 {
-        return false;
-    }
-    if input[0] != b'P' {
-        return false;
-    }
-    if input[1] != b'2' {
-        return false;
-    }
-    is_separator(input[2])
+    matches!(input, [b'P', b'2', third, ..] if is_separator(*third))
 }
 
 // Reads the drawing's tones into the front of the band; what lies behind the tones written stays as it was, at a fault too. It
@@ -41,21 +30,10 @@ pub fn read_pgm(input: &[u8], band: &mut [u8]) -> Result<Picture, Fault>
     ensures answer { MatchResult result (λ p. DrawingRead input.now (length band.old) p.size.rows p.size.columns p.end) (λ f. read_fault input.now (length band.old) ≡ Some (told_by f)) }
 {
     if !does_begin(input) {
-        return Err(Fault {
-            refusal: Refusal::NotPlainPgm,
-            offset: 0,
-        });
+        return Err(Refusal::NotPlainPgm.into());
     }
-    let mut reader = Reader { input, position: 2 };
-    let head = match read_head(&mut reader, band.len()) {
-        Ok(head) => head,
-        Err(fault) => return Err(fault),
-    };
-    match read_samples(&mut reader, head.greatest, head.size.squares(), band) {
-        Ok(()) => Ok(Picture {
-            size: head.size,
-            end: reader.position,
-        }),
-        Err(fault) => Err(fault),
-    }
+    let head = read_head(input, band.len())?;
+    let end = read_samples(input, head, band)?;
+    let size = head.size;
+    Ok(Picture { size, end })
 }

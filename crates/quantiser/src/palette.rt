@@ -1,6 +1,7 @@
 // A palette of 1 to 16 colours.
 ghost use Rattle.std.specs.Prelude.{◌≡◌, ◌≤◌, length};
 
+mod conversions;
 pub(crate) mod nearest;
 mod write;
 
@@ -12,7 +13,8 @@ pub struct Entry {
     pub blue: u8,
 }
 
-// The first `len` entries are the colours; the others are not read.
+// The first `len` entries are the colours; the others are not read. An array with a length beside it, since a palette is copied and
+// nothing here allocates.
 #[derive(Clone, Copy)]
 pub struct Palette {
     entries: [Entry; 16],

@@ -23,5 +23,5 @@ pub trait Quantiser {
     fn output(&self, code: u8) -> Self::Tone
         ensures { result ≡ (tables self.now).output code };
 
-    ghost sound: { (q : Self) → Sound Self.Tone.Tone.algebra (tables q) };
+    ghost sound: { (q : Self) → Sound Self.Tone.algebra (tables q) };
 }

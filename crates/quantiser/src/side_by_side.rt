@@ -15,7 +15,7 @@ fn kept_counts(first: u8, second: u8) -> Result<Counts, Refusal>
     requires second { 1 ≤ second }
     ensures { MatchResult result (λ k. (k.first ≡ first) × (k.second ≡ second)) (λ e. (number_of e ≡ 19) × (254 < first * second)) }
 {
-    if first as u16 * second as u16 > 254 {
+    if u16::from(first) * u16::from(second) > 254 {
         return Err(Refusal::TooManyCodes);
     }
     Ok(Counts { first, second })
@@ -32,7 +32,7 @@ pub struct SideBySide<L, R> {
 impl<L: Quantiser + Drop, R: Quantiser + Drop> SideBySide<L, R> {
     // The two side by side; 19 where the product of their counts is above 254.
     pub fn new(left: L, right: R) -> Result<SideBySide<L, R>, Refusal>
-        ensures { MatchResult result (λ q. Beside (L.Quantiser.tables left) (R.Quantiser.tables right) (side_by_side L.Tone.Tone.algebra R.Tone.Tone.algebra q.counts (L.Quantiser.tables q.left) (R.Quantiser.tables q.right))) (λ e. (number_of e ≡ 19) × (254 < (L.Quantiser.tables left).count * (R.Quantiser.tables right).count)) }
+        ensures { MatchResult result (λ q. Beside (L.tables left) (R.tables right) (⟦<SideBySide<L, R> as Quantiser>⟧.tables q)) (λ e. (number_of e ≡ 19) × (254 < (L.tables left).count * (R.tables right).count)) }
     {
         let counts = kept_counts(left.count(), right.count())?;
         Ok(SideBySide {
@@ -46,9 +46,9 @@ impl<L: Quantiser + Drop, R: Quantiser + Drop> SideBySide<L, R> {
 impl<L: Quantiser, R: Quantiser> Quantiser for SideBySide<L, R> {
     type Tone = Pair<L::Tone, R::Tone>;
 
-    ghost tables = { λ q. side_by_side L.Tone.Tone.algebra R.Tone.Tone.algebra q.counts (L.Quantiser.tables q.left) (R.Quantiser.tables q.right) };
+    ghost tables = { λ q. side_by_side L.Tone.algebra R.Tone.algebra q.counts (L.tables q.left) (R.tables q.right) };
 
-    ghost sound = { λ q. side_sound L.Tone.Tone.algebra R.Tone.Tone.algebra q.counts (L.Quantiser.tables q.left) (R.Quantiser.tables q.right) };
+    ghost sound = { λ q. side_sound L.Tone.algebra R.Tone.algebra q.counts (L.tables q.left) (R.tables q.right) };
 
     fn count(&self) -> u8 {
         self.counts.product()
@@ -66,10 +66,7 @@ impl<L: Quantiser, R: Quantiser> Quantiser for SideBySide<L, R> {
                 second: self.right.output(self.counts.second_of(code)),
             }
         } else {
-            Pair {
-                first: L::Tone::zero(),
-                second: R::Tone::zero(),
-            }
+            Pair::zero()
         }
     }
 }

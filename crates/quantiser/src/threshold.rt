@@ -3,7 +3,7 @@ ghost use Rattle.quantiser.specs.Threshold.{by_threshold};
 ghost use Rattle.std.proofs.Common.{rules};
 
 use crate::quantiser::Quantiser;
-use tone::Grey;
+use tone::{Grey, Tone};
 
 #[derive(Clone, Copy)]
 pub struct Threshold {
@@ -22,14 +22,14 @@ impl Quantiser for Threshold {
     }
 
     fn choose(&self, tone: Grey) -> u8 {
-        if tone.value >= self.least { 1 } else { 0 }
+        u8::from(tone.value >= self.least)
     }
 
     fn output(&self, code: u8) -> Grey {
         if code == 1 {
-            Grey { value: 255 }
+            Grey::from(255)
         } else {
-            Grey { value: 0 }
+            Grey::zero()
         }
     }
 }

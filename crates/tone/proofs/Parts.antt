@@ -1,9 +1,8 @@
 -- A part of an error: no greater than the whole, and exact on its way through 64 bits and back.
-use Rattle.std.proofs.Common.{◌≡◌, ℕ, zero, suc, ◌*◌, ◌/◌, ◌^◌, ◌<◌, ◌≤◌, Bool, true, false, cond, ◌&&◌, ltb, leb, ℤ, pos, negsuc, ◌*ℤ◌, neg_ℤ, sym, refl, ap, ◌∙◌, subst, le_of_lt, mul_comm, mul-le-mul_left, zero-mul, arith, w32, w64, SFits, to_z, of_z}
+use Rattle.std.proofs.Common.{◌≡◌, ℕ, zero, suc, ◌*◌, ◌/◌, ◌^◌, ◌<◌, ◌≤◌, Bool, true, false, cond, ◌&&◌, ltb, leb, ℤ, pos, negsuc, ◌*ℤ◌, neg_ℤ, sym, refl, ap, ◌∙◌, subst, le_of_lt, mul_comm, mul-le-mul_left, zero-mul, lit<, arith, w32, w64, SFits, to_z, of_z}
 use native.Mathlib.Nat.{zero-div, div-le_of_le-mul}
-use lib.Signed.{mag, quot_z}
-use Rattle.std.proofs.lemmas.Nat.{mul-le}
-use Rattle.std.proofs.lemmas.Int.{to_z-of_z, to_z_pos, int_wrap_fits}
+use Rattle.std.specs.Int.Signed.{mag, quot_z, nat_abs-le}
+use Rattle.std.proofs.lemmas.Int.{to_z-of_z, int_wrap_fits, fits_signed_mul}
 use Rattle.std.proofs.lemmas.Bool.{and_parts, ltb-true}
 use Rattle.std.proofs.lemmas.Bool.Decides.{nat_tests}
 use Rattle.tone.specs.Grey.{usable, part_of, share_value, grey_algebra}
@@ -50,30 +49,15 @@ cut n w W some less most = record {
     used : (z : ℤ) → share_value z w W ≡ part_of z w W
     used z = grind (arith, nat_tests)
 
--- the product of 32 bits and 8 fits 64
-product : (e : ℤ) (w : ℕ) → mag e < 2 ^ 31 → w < 2 ^ 8 → mag (e *ℤ pos w) < 2 ^ 63
-product (pos a) w h k = omega (arith, mul-le a w (2 ^ 31) (2 ^ 8) (omega arith) (omega arith))
-product (negsuc a) w h k = omega (arith, mul-le (suc a) w (2 ^ 31) (2 ^ 8) (omega arith) (omega arith), mag_neg (suc a * w) (2 ^ 39) (omega (arith, mul-le (suc a) w (2 ^ 31) (2 ^ 8) (omega arith) (omega arith))))
-
--- the numbers that the code passes through
+-- what the code passes through: the whole and the weight at 64 bits, their product, and its part
 module _ (e : ℤ) (w W : ℕ) (f : SFits w32 e) (top : W < 2 ^ 8) (lt : w < W) where
-  pub wide : SFits w64 (e *ℤ pos w)
-  wide = record { sfits = product e w f.sfits (omega arith) }
-
   pub narrow : SFits w32 (part_of e w W)
   narrow = record { sfits = omega (arith, part_le e w W lt, f.sfits) }
 
-  pub long : SFits w64 (part_of e w W)
-  long = record { sfits = omega (arith, part_le e w W lt, f.sfits) }
-
-  whole : SFits w64 e
-  whole = record { sfits = omega (arith, f.sfits) }
-
-  pub product_code : to_z w64 (of_z w64 (to_z w32 (of_z w32 e))) *ℤ to_z w64 w ≡ e *ℤ pos w
-  product_code = rw (to_z-of_z w32 e f, to_z-of_z w64 e whole, to_z_pos w64 w (omega arith))
-
-  -- what the division gives, and the same cut to 32 bits
-  pub quotient : (z : ℤ) → z ≡ quot_z (to_z w64 (of_z w64 (to_z w64 (of_z w64 (to_z w32 (of_z w32 e))) *ℤ to_z w64 w))) (pos W) → to_z w64 (of_z w64 z) ≡ part_of e w W
-  quotient z is =
-      let exact : z ≡ part_of e w W = is ∙ rw (product_code, to_z-of_z w64 (e *ℤ pos w) wide) in
-      ap (λ y. to_z w64 (of_z w64 y)) exact ∙ to_z-of_z w64 (part_of e w W) long
+  pub quotient : (x y z : ℤ) → x ≡ to_z w32 (of_z w32 e) → y ≡ pos w → z ≡ quot_z (to_z w64 (of_z w64 (to_z w64 (of_z w64 x) *ℤ to_z w64 (of_z w64 y)))) (pos W) → to_z w64 (of_z w64 z) ≡ part_of e w W
+  quotient x y z is_x is_y is =
+      let e64 : SFits w64 e = record { sfits = omega (arith, f.sfits) } in
+      let weight64 : SFits w64 (pos w) = record { sfits = omega arith } in
+      let product64 : SFits w64 (e *ℤ pos w) = fits_signed_mul w64 e (pos w) (2 ^ 31) (2 ^ 8) (nat_abs-le e f.sfits) (omega arith) (lit< tt) in
+      let part64 : SFits w64 (part_of e w W) = record { sfits = omega (arith, narrow.sfits) } in
+      rw (is, is_x, is_y, to_z-of_z w32 e f, to_z-of_z w64 e e64, to_z-of_z w64 (pos w) weight64, to_z-of_z w64 (e *ℤ pos w) product64) (to_z-of_z w64 (part_of e w W) part64)

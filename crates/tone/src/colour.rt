@@ -1,4 +1,5 @@
-// Colour: three channels, each treated alone.
+// Colour: three channels, each treated alone. Each operation stands channel by channel, as a pair's does half by half: one function for
+// all of them would take the operation as a closure, whose contract is longer than the lines that it saves.
 ghost use Rattle.tone.specs.Colour.{colour_algebra};
 ghost use Rattle.std.proofs.Common.{rules};
 ghost use Rattle.tone.specs.GreyLaws.{grey_lawful};
@@ -6,7 +7,7 @@ ghost use Rattle.tone.specs.GreyLaws.{grey_lawful};
 use crate::grey::Grey;
 use crate::tone::Tone;
 
-#[derive(Clone, Copy)]
+#[derive(Clone, Copy, PartialEq, Eq, Debug)]
 pub struct Colour {
     pub red: Grey,
     pub green: Grey,

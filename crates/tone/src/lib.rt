@@ -3,6 +3,7 @@
 
 mod colour;
 mod grey;
+mod grey_from;
 mod grey_tone;
 mod laws;
 mod pair;

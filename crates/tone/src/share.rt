@@ -30,5 +30,5 @@ pub(crate) fn part(e: i32, weight: u8, total: u8) -> i32
     requires most { total ≤ 12 }
     ensures { result ≡ part_of e weight total }
 {
-    divided(e as i64 * weight as i64, total) as i32
+    divided(i64::from(e) * i64::from(weight), total) as i32
 }

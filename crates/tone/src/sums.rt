@@ -8,9 +8,5 @@ use crate::tone::Tone;
 pub fn total<T: Tone>(band: &[T]) -> T
     ensures { result ≡ sum_of T.algebra band.now }
 {
-    let mut sum = T::zero();
-    for tone in band {
-        sum = sum.sum(*tone);
-    }
-    sum
+    band.iter().fold(T::zero(), |sum, tone| sum.sum(*tone))
 }

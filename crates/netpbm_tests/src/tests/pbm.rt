@@ -1,27 +1,19 @@
 // What Pack writes and answers.
 use grid::Size;
 use netpbm::pack;
+use refusal::Refusal;
 
-// What Pack answers for a size of so many rows and columns: the refusal's number and 0, or 0 and the length.
-fn packed(rows: usize, columns: usize, codes: &[u8], out: &mut [u8]) -> (u8, usize) {
-    let size = match Size::new(rows, columns) {
-        Ok(size) => size,
-        Err(refusal) => return (refusal.number(), 0),
-    };
-    match pack(&size, codes, out) {
-        Ok(length) => (0, length),
-        Err(refusal) => (refusal.number(), 0),
-    }
+// What Pack answers for a size of so many rows and columns.
+fn packed(rows: usize, columns: usize, codes: &[u8], out: &mut [u8]) -> Result<usize, Refusal> {
+    let size = Size::new(rows, columns)?;
+    pack(&size, codes, out)
 }
 
 // A row of nine squares takes two bytes, the second padded with zeros; what lies behind stays.
 #[test]
 fn nine_columns(rt: HostRuntime) {
     let mut out = [7u8; 10];
-    assert_eq!(rt;
-        packed(1, 9, &[0, 1, 1, 1, 1, 1, 0, 1, 0], &mut out),
-        (0, 9)
-    );
+    assert_eq!(rt; packed(1, 9, &[0, 1, 1, 1, 1, 1, 0, 1, 0], &mut out), Ok(9));
     assert_eq!(rt; out, *b"P4\n9 1\n\x82\x80\x07");
 }
 
@@ -29,9 +21,9 @@ fn nine_columns(rt: HostRuntime) {
 #[test]
 fn two_rows(rt: HostRuntime) {
     let mut out = [7u8; 9];
-    assert_eq!(rt; packed(2, 2, &[0, 0, 1, 1], &mut out), (0, 9));
+    assert_eq!(rt; packed(2, 2, &[0, 0, 1, 1], &mut out), Ok(9));
     assert_eq!(rt; out, *b"P4\n2 2\n\xc0\x00");
-    assert_eq!(rt; packed(2, 3, &[1, 1, 0, 0, 1, 0], &mut out), (0, 9));
+    assert_eq!(rt; packed(2, 3, &[1, 1, 0, 0, 1, 0], &mut out), Ok(9));
     assert_eq!(rt; out, *b"P4\n3 2\n\x20\xa0");
 }
 
@@ -39,14 +31,29 @@ fn two_rows(rt: HostRuntime) {
 #[test]
 fn refusals(rt: HostRuntime) {
     let mut short = [7u8; 7];
-    assert_eq!(rt; packed(1, 3, &[0, 2], &mut short), (2, 0));
-    assert_eq!(rt; packed(1, 3, &[0, 2, 255], &mut short), (6, 0));
+    assert_eq!(rt; packed(1, 3, &[0, 2], &mut short), Err(Refusal::BandLength));
+    assert_eq!(rt;
+        packed(1, 3, &[0, 2, 255], &mut short),
+        Err(Refusal::OutputTooShort)
+    );
     assert_eq!(rt; short, [7; 7]);
     let mut out = [7u8; 8];
-    assert_eq!(rt; packed(1, 3, &[0, 2, 0, 0], &mut out), (2, 0));
-    assert_eq!(rt; packed(1, 3, &[0, 2, 255], &mut out), (11, 0));
-    assert_eq!(rt; packed(1, 3, &[1, 255, 2], &mut out), (10, 0));
-    assert_eq!(rt; packed(1, 3, &[1, 254, 255], &mut out), (11, 0));
+    assert_eq!(rt;
+        packed(1, 3, &[0, 2, 0, 0], &mut out),
+        Err(Refusal::BandLength)
+    );
+    assert_eq!(rt;
+        packed(1, 3, &[0, 2, 255], &mut out),
+        Err(Refusal::CodeAboveOne)
+    );
+    assert_eq!(rt;
+        packed(1, 3, &[1, 255, 2], &mut out),
+        Err(Refusal::SquareOpen)
+    );
+    assert_eq!(rt;
+        packed(1, 3, &[1, 254, 255], &mut out),
+        Err(Refusal::CodeAboveOne)
+    );
     assert_eq!(rt; out, [7; 8]);
 }
 
@@ -55,9 +62,12 @@ fn refusals(rt: HostRuntime) {
 fn longest_row(rt: HostRuntime) {
     let codes = [0u8; 4096];
     let mut short = [7u8; 521];
-    assert_eq!(rt; packed(1, 4096, &codes, &mut short), (6, 0));
+    assert_eq!(rt;
+        packed(1, 4096, &codes, &mut short),
+        Err(Refusal::OutputTooShort)
+    );
     let mut out = [7u8; 523];
-    assert_eq!(rt; packed(1, 4096, &codes, &mut out), (0, 522));
+    assert_eq!(rt; packed(1, 4096, &codes, &mut out), Ok(522));
     assert_eq!(rt; out[9], b'\n');
     assert_eq!(rt; out[10], 255);
     assert_eq!(rt; out[521], 255);
@@ -69,9 +79,12 @@ fn longest_row(rt: HostRuntime) {
 fn longest_column(rt: HostRuntime) {
     let codes = [0u8; 4096];
     let mut short = [7u8; 4105];
-    assert_eq!(rt; packed(4096, 1, &codes, &mut short), (6, 0));
+    assert_eq!(rt;
+        packed(4096, 1, &codes, &mut short),
+        Err(Refusal::OutputTooShort)
+    );
     let mut out = [7u8; 4107];
-    assert_eq!(rt; packed(4096, 1, &codes, &mut out), (0, 4106));
+    assert_eq!(rt; packed(4096, 1, &codes, &mut out), Ok(4106));
     assert_eq!(rt; out[10], 128);
     assert_eq!(rt; out[4105], 128);
     assert_eq!(rt; out[4106], 7);

@@ -1,39 +1,41 @@
 // What Read answers to files that are right, or wrong in one place.
-use netpbm::read_pgm;
+use netpbm::{Fault, read_pgm};
+use refusal::Refusal;
 use std::process::Abort;
 
-// A file, and what is told of it: the refusal's number and offset, or 0 and the offset behind the last sample.
+// A file, and what Read answers: the offset behind the last sample, or a fault.
 #[derive(Clone, Copy)]
 struct Case {
     input: &'static [u8],
-    number: u8,
-    offset: usize,
+    answer: Result<usize, Fault>,
 }
 
-// A row of a table.
-fn row(input: &'static [u8], number: u8, offset: usize) -> Case {
+// A file that is read up to an offset.
+fn taken(input: &'static [u8], end: usize) -> Case {
     Case {
         input,
-        number,
-        offset,
+        answer: Ok(end),
     }
 }
 
-// What Read tells, with a band of 16 bytes.
-fn told(input: &[u8]) -> (u8, usize) {
-    let mut band = [7u8; 16];
-    match read_pgm(input, &mut band) {
-        Ok(picture) => (0, picture.end),
-        Err(fault) => (fault.refusal.number(), fault.offset),
+// A file that is refused, with the offset that is told.
+fn refused(input: &'static [u8], refusal: Refusal, offset: usize) -> Case {
+    Case {
+        input,
+        answer: Err(Fault { refusal, offset }),
     }
+}
+
+// What Read answers, with a band of 16 bytes.
+fn told(input: &[u8]) -> Result<usize, Fault> {
+    let mut band = [7u8; 16];
+    Ok(read_pgm(input, &mut band)?.end)
 }
 
 // Checks every row of a table.
 fn check_all(rt: &impl Abort, cases: &[Case]) {
     for (i, case) in cases.iter().enumerate() {
-        let (number, offset) = told(case.input);
-        assert_eq!(rt; number, case.number, "case {i}");
-        assert_eq!(rt; offset, case.offset, "case {i}");
+        assert_eq!(rt; told(case.input), case.answer, "case {i}");
     }
 }
 
@@ -43,13 +45,13 @@ fn beginnings(rt: HostRuntime) {
     check_all(
         &rt,
         &[
-            row(b"", 12, 0),
-            row(b"P2", 12, 0),
-            row(b"P2x1 1 255 0", 12, 0),
-            row(b"P2\x0c1 1 255 0", 12, 0),
-            row(b"P5 1 1 255 0", 12, 0),
-            row(b" P2 1 1 255 0", 12, 0),
-            row(b"P2 ", 13, 3),
+            refused(b"", Refusal::NotPlainPgm, 0),
+            refused(b"P2", Refusal::NotPlainPgm, 0),
+            refused(b"P2x1 1 255 0", Refusal::NotPlainPgm, 0),
+            refused(b"P2\x0c1 1 255 0", Refusal::NotPlainPgm, 0),
+            refused(b"P5 1 1 255 0", Refusal::NotPlainPgm, 0),
+            refused(b" P2 1 1 255 0", Refusal::NotPlainPgm, 0),
+            refused(b"P2 ", Refusal::NotANumber, 3),
         ],
     );
 }
@@ -60,16 +62,20 @@ fn head_numbers(rt: HostRuntime) {
     check_all(
         &rt,
         &[
-            row(b"P2 0 0", 13, 6),
-            row(b"P2 0 0 ", 13, 7),
-            row(b"P2 1 x 255 0", 13, 5),
-            row(b"P2 # one", 13, 3),
-            row(b"P2 70000 1 255 0", 13, 3),
-            row(b"P2 65536 1 255 0", 13, 3),
-            row(b"P2 1 65536 255 0", 13, 5),
-            row(b"P2 1 1 65536 0", 13, 7),
-            row(b"P2 000000000000000000000000000001 1 255 9", 0, 41),
-            row(b"P2 1 1 100000000000000000000000000000 0", 13, 7),
+            refused(b"P2 0 0", Refusal::NotANumber, 6),
+            refused(b"P2 0 0 ", Refusal::NotANumber, 7),
+            refused(b"P2 1 x 255 0", Refusal::NotANumber, 5),
+            refused(b"P2 # one", Refusal::NotANumber, 3),
+            refused(b"P2 70000 1 255 0", Refusal::NotANumber, 3),
+            refused(b"P2 65536 1 255 0", Refusal::NotANumber, 3),
+            refused(b"P2 1 65536 255 0", Refusal::NotANumber, 5),
+            refused(b"P2 1 1 65536 0", Refusal::NotANumber, 7),
+            taken(b"P2 000000000000000000000000000001 1 255 9", 41),
+            refused(
+                b"P2 1 1 100000000000000000000000000000 0",
+                Refusal::NotANumber,
+                7,
+            ),
         ],
     );
 }
@@ -80,18 +86,18 @@ fn sizes(rt: HostRuntime) {
     check_all(
         &rt,
         &[
-            row(b"P2 0 5 0", 1, 0),
-            row(b"P2 5000 1 255 0", 1, 0),
-            row(b"P2 65535 1 0 0", 1, 0),
-            row(b"P2 4097 1 255", 1, 0),
-            row(b"P2 4096 257 255", 1, 0),
-            row(b"P2 4096 256 0", 14, 12),
-            row(b"P2 4096 256 255", 6, 0),
-            row(b"P2 1 1 0 0", 14, 7),
-            row(b"P2 1 1 256 0", 14, 7),
-            row(b"P2 17 1 255 x", 6, 0),
-            row(b"P2 1 17 255 x", 6, 0),
-            row(b"P2 4 4 255 x", 13, 11),
+            refused(b"P2 0 5 0", Refusal::SizeOutsideLimits, 0),
+            refused(b"P2 5000 1 255 0", Refusal::SizeOutsideLimits, 0),
+            refused(b"P2 65535 1 0 0", Refusal::SizeOutsideLimits, 0),
+            refused(b"P2 4097 1 255", Refusal::SizeOutsideLimits, 0),
+            refused(b"P2 4096 257 255", Refusal::SizeOutsideLimits, 0),
+            refused(b"P2 4096 256 0", Refusal::SampleOutsideRange, 12),
+            refused(b"P2 4096 256 255", Refusal::OutputTooShort, 0),
+            refused(b"P2 1 1 0 0", Refusal::SampleOutsideRange, 7),
+            refused(b"P2 1 1 256 0", Refusal::SampleOutsideRange, 7),
+            refused(b"P2 17 1 255 x", Refusal::OutputTooShort, 0),
+            refused(b"P2 1 17 255 x", Refusal::OutputTooShort, 0),
+            refused(b"P2 4 4 255 x", Refusal::NotANumber, 11),
         ],
     );
 }
@@ -102,28 +108,28 @@ fn samples(rt: HostRuntime) {
     check_all(
         &rt,
         &[
-            row(b"P2 1 1 255 65536", 13, 11),
-            row(b"P2 1 1 255 65535", 14, 11),
-            row(b"P2 1 1 255 300", 14, 11),
-            row(b"P2 1 1 255 007", 0, 14),
-            row(b"P2 1 1 255 1x", 13, 11),
-            row(b"P2 1 1 255 +1", 13, 11),
-            row(b"P2 1 1 255", 13, 10),
-            row(b"P2 2 1 255 5", 13, 12),
-            row(b"P2 2 1 255 5 \n", 13, 14),
-            row(b"P2 2 1 9 9 10", 14, 11),
-            row(b"P2 1 1 255 5 \xff# more", 0, 12),
-            row(b"P2\r\n2 1\r\n255\r\n1 2\r\n", 0, 17),
-            row(b"P2\t\t1 \r\n1\n255\t 5", 0, 16),
+            refused(b"P2 1 1 255 65536", Refusal::NotANumber, 11),
+            refused(b"P2 1 1 255 65535", Refusal::SampleOutsideRange, 11),
+            refused(b"P2 1 1 255 300", Refusal::SampleOutsideRange, 11),
+            taken(b"P2 1 1 255 007", 14),
+            refused(b"P2 1 1 255 1x", Refusal::NotANumber, 11),
+            refused(b"P2 1 1 255 +1", Refusal::NotANumber, 11),
+            refused(b"P2 1 1 255", Refusal::NotANumber, 10),
+            refused(b"P2 2 1 255 5", Refusal::NotANumber, 12),
+            refused(b"P2 2 1 255 5 \n", Refusal::NotANumber, 14),
+            refused(b"P2 2 1 9 9 10", Refusal::SampleOutsideRange, 11),
+            taken(b"P2 1 1 255 5 \xff# more", 12),
+            taken(b"P2\r\n2 1\r\n255\r\n1 2\r\n", 17),
+            taken(b"P2\t\t1 \r\n1\n255\t 5", 16),
         ],
     );
 }
 
-// Reads into a band of sevens, and tells the band with what was answered: rows and columns, or 0 and the refusal's number.
-fn read_into(input: &[u8], band: &mut [u8]) -> (usize, usize) {
+// Reads into a band, and tells the rows and columns.
+fn read_into(input: &[u8], band: &mut [u8]) -> Result<(usize, usize), Refusal> {
     match read_pgm(input, band) {
-        Ok(picture) => (picture.size.rows, picture.size.columns),
-        Err(fault) => (0, fault.refusal.number() as usize),
+        Ok(picture) => Ok((picture.size.rows, picture.size.columns)),
+        Err(fault) => Err(fault.refusal),
     }
 }
 
@@ -131,13 +137,19 @@ fn read_into(input: &[u8], band: &mut [u8]) -> (usize, usize) {
 #[test]
 fn bands(rt: HostRuntime) {
     let mut band = [7u8; 4];
-    assert_eq!(rt; read_into(b"P2 3 1 9 1 2 3 4", &mut band), (1, 3));
+    assert_eq!(rt; read_into(b"P2 3 1 9 1 2 3 4", &mut band), Ok((1, 3)));
     assert_eq!(rt; band, [1, 2, 3, 7]);
-    assert_eq!(rt; read_into(b"P2 1 2 255 255 0", &mut band), (2, 1));
+    assert_eq!(rt; read_into(b"P2 1 2 255 255 0", &mut band), Ok((2, 1)));
     assert_eq!(rt; band, [255, 0, 3, 7]);
-    assert_eq!(rt; read_into(b"P2 2 2 9 8 9 10 9", &mut band), (0, 14));
+    assert_eq!(rt;
+        read_into(b"P2 2 2 9 8 9 10 9", &mut band),
+        Err(Refusal::SampleOutsideRange)
+    );
     assert_eq!(rt; band, [8, 9, 3, 7]);
-    assert_eq!(rt; read_into(b"P2 5 1 9 1 1 1 1 1", &mut band), (0, 6));
+    assert_eq!(rt;
+        read_into(b"P2 5 1 9 1 1 1 1 1", &mut band),
+        Err(Refusal::OutputTooShort)
+    );
     assert_eq!(rt; band, [8, 9, 3, 7]);
 }
 
@@ -145,6 +157,12 @@ fn bands(rt: HostRuntime) {
 #[test]
 fn longest(rt: HostRuntime) {
     let mut band = [7u8; 4096];
-    assert_eq!(rt; read_into(b"P2 4096 1 255", &mut band), (0, 13));
-    assert_eq!(rt; read_into(b"P2 1 4096 255", &mut band), (0, 13));
+    assert_eq!(rt;
+        read_into(b"P2 4096 1 255", &mut band),
+        Err(Refusal::NotANumber)
+    );
+    assert_eq!(rt;
+        read_into(b"P2 1 4096 255", &mut band),
+        Err(Refusal::NotANumber)
+    );
 }

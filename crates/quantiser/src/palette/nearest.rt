@@ -1,8 +1,7 @@
 // The nearest colour of a palette.
-ghost use Rattle.std.specs.Prelude.{◌≡◌, ◌^◌, ◌<◌, pos};
-ghost use Rattle.tone.specs.Grey.{wrap};
+ghost use Rattle.std.specs.Prelude.{◌≡◌, ◌^◌, ◌<◌};
 ghost use Rattle.quantiser.specs.Least.{FirstSmallest};
-ghost use Rattle.quantiser.specs.Palette.{channel_distance, distance, entry_of, tone_of, by_palette};
+ghost use Rattle.quantiser.specs.Palette.{channel_distance, distance, entry_of, by_palette};
 ghost use Rattle.std.proofs.Common.{arith};
 ghost use Rattle.std.proofs.lemmas.Bool.{cond-false, le-ltb};
 ghost use Rattle.quantiser.specs.Smallest.{least-within};
@@ -16,7 +15,7 @@ fn channel_apart(x: Grey, byte: u8) -> u64
     ensures value { result ≡ channel_distance x byte }
     ensures bound { result < 2 ^ 32 }
 {
-    x.value.abs_diff(byte as i32) as u64
+    u64::from(x.value.abs_diff(i32::from(byte)))
 }
 
 // The absolute differences of the channels, added.
@@ -28,37 +27,15 @@ fn apart(tone: Colour, entry: Entry) -> u64
         + channel_apart(tone.blue, entry.blue)
 }
 
-// A byte as a channel.
-fn channel_of(byte: u8) -> Grey
-    ensures { result ≡ wrap (pos byte) }
-{
-    Grey { value: byte as i32 }
-}
-
-// An entry as a tone.
-fn colour_of(entry: Entry) -> Colour
-    ensures { result ≡ tone_of entry }
-{
-    Colour {
-        red: channel_of(entry.red),
-        green: channel_of(entry.green),
-        blue: channel_of(entry.blue),
-    }
-}
-
 impl Palette {
     // The code of the nearest colour, the lowest among equals.
     pub fn nearest(&self, tone: Colour) -> u8
         ensures value { result ≡ (by_palette self.now).choice tone }
         ensures relation { FirstSmallest (λ k. distance tone (entry_of self.now k)) self.now.len result }
     {
-        let mut best = 0;
-        for i in 0..self.len {
-            if apart(tone, self.entries[i as usize]) < apart(tone, self.entries[best as usize]) {
-                best = i;
-            }
-        }
-        best
+        (0..self.len)
+            .min_by_key(|code| apart(tone, self.entries[usize::from(*code)]))
+            .unwrap_or(0)
     }
 }
 
@@ -85,7 +62,7 @@ impl Quantiser for Palette {
 
     fn output(&self, code: u8) -> Colour {
         if code < self.len {
-            colour_of(self.entries[code as usize])
+            Colour::from(self.entries[usize::from(code)])
         } else {
             Colour::zero()
         }

@@ -1,15 +1,7 @@
-use Rattle.std.proofs.Common.{◌≡◌, ℕ, ◌*◌, length, drop, ap, ◌∙◌, arith}
-use Rattle.std.proofs.lemmas.List.Edits.{fill_by_more}
+use Rattle.std.proofs.Common.{◌≡◌, ℕ, ◌*◌, length, drop, arith}
 use Rattle.std.proofs.lemmas.List.FromFn.{fill_by_all}
 use Rattle.bits.specs.Bits.{byte_of}
 use Rattle.bits.proofs.row.pack_row.Goals as goal
-
-pub loop-b-preserved : goal.loop-b-preserved
-loop-b-preserved g c =
-    let f : ℕ → ℕ = λ k. byte_of g.M.Mark.marks (drop (8 * k) c.args.codes.now) in
-    let is : c.pack_byte.result ≡ f c.loop-b.b =
-    c.pack_byte.ensures ∙ ap (byte_of g.M.Mark.marks) c.codes_from.ensures in
-    rw is (fill_by_more f c.loop-b.out c.loop-b.b 0 (omega arith) c.loop-b.invariant)
 
 pub returns : goal.returns
 returns g c =

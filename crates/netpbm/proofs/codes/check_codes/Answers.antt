@@ -1,26 +1,21 @@
-use Rattle.std.proofs.Common.{◌+◌, leb, get_or, drop, sym, ◌∙◌, arith}
-use Rattle.std.proofs.lemmas.List.{at_drop_more, at_drop_all}
-use Rattle.std.proofs.lemmas.Bool.{cond-true, cond-false, le-leb, lt-leb}
-use Rattle.netpbm.specs.Pbm.{code_refusal, codes_refusal}
+use Rattle.std.proofs.Common.{ltb, sym, ap, ◌∙◌, rules, tests}
+use Rattle.std.specs.Option.{option_map}
+use Rattle.std.proofs.lemmas.Iterator.{YieldsList-from_slice}
+use Rattle.std.proofs.lemmas.Iterator.Search.{find_from_yields_List}
+use Rattle.netpbm.proofs.FirstCode.{refused-none, refused_open, refused_high}
 use Rattle.netpbm.proofs.codes.check_codes.Goals as goal
+
+pub returns-in-None : goal.returns-in-None
+returns-in-None c =
+    let first = find_from_yields_List (ltb 1) _ _ c.find.result c.find.ensures.ran (YieldsList-from_slice c.args.codes.now c.iter.ensures.rest) (λ x b q k. search (rules, tests)) in
+    refused-none c.args.codes.now (sym first ∙ ap (option_map _) c.in-None.is)
+
+pub returns-in-Some-eq255 : goal.returns-in-Some-eq255
+returns-in-Some-eq255 c =
+    let first = find_from_yields_List (ltb 1) _ _ c.find.result c.find.ensures.ran (YieldsList-from_slice c.args.codes.now c.iter.ensures.rest) (λ x b q k. search (rules, tests)) in
+    refused_open c.args.codes.now _ (sym first ∙ ap (option_map _) c.in-Some-eq255.is) c.in-Some-eq255.field-0-test
 
 pub returns-in-Some : goal.returns-in-Some
 returns-in-Some c =
-    let xs = c.args.codes.now in
-    let i = c.loop-code.code-index in
-    let x = get_or xs i 0 in
-    let got = c.in-Some.ensures in
-    got.1
-    ∙ sym (at_drop_more codes_refusal xs i 0 (omega arith) ∙ cond-false (leb x 1) (codes_refusal (drop (i + 1) xs)) (code_refusal x) (lt-leb x 1 got.0))
-    ∙ c.loop-code.invariant
-
-pub loop-code-preserved : goal.loop-code-preserved
-loop-code-preserved c =
-    let xs = c.args.codes.now in
-    let i = c.loop-code.code-index in
-    let x = get_or xs i 0 in
-    sym (at_drop_more codes_refusal xs i 0 (omega arith) ∙ cond-true (leb x 1) (codes_refusal (drop (i + 1) xs)) (code_refusal x) (le-leb x 1 c.in_default.ensures))
-    ∙ c.loop-code.invariant
-
-pub returns : goal.returns
-returns c = sym c.loop-code.invariant ∙ at_drop_all codes_refusal c.args.codes.now c.loop-code.code-index (omega arith)
+    let first = find_from_yields_List (ltb 1) _ _ c.find.result c.find.ensures.ran (YieldsList-from_slice c.args.codes.now c.iter.ensures.rest) (λ x b q k. search (rules, tests)) in
+    refused_high c.args.codes.now _ (sym first ∙ ap (option_map _) c.in-Some.is) c.in-Some.field-0-test.1

@@ -1,14 +1,10 @@
-use Rattle.std.proofs.Common.{◌<◌, ◌≢◌, length, ◌∙◌, arith, length-set, get_or-set_other, get_or-set_same, below_more}
+use Rattle.std.proofs.Common.{ℕ, get_or, [], rules}
 use Rattle.quantiser.specs.Palette.{black, entry_at}
+use Rattle.quantiser.specs.declared.palette.Entry.{Entry}
+use Rattle.quantiser.proofs.Filled.{filled}
 use Rattle.quantiser.proofs.palette.write.entries_of.Goals as goal
 
-pub loop-i-preserved : goal.loop-i-preserved
-loop-i-preserved c =
-    let xs = c.loop-i.entries in
-    let e = entry_at c.args.bytes.now c.loop-i.i in
-    let lt : c.loop-i.i < length xs = omega arith in (
-      simp length-set c.loop-i.invariant.0,
-      below_more _ _
-          (λ k h. let ne : k ≢ c.loop-i.i = omega arith in get_or-set_other xs _ _ e black ne ∙ c.loop-i.invariant.1 k h)
-          (get_or-set_same xs c.loop-i.i e black lt),
-    )
+pub returns-clause-colours : goal.returns-clause-colours
+returns-clause-colours c =
+    let h : ℕ → Entry = λ k. entry_at (get_or c.args.threes.now k []) 0 in
+    λ k l. filled _ _ h (λ x r g k. search rules) c.from_fn.result 16 c.from_fn.ensures.items k black l

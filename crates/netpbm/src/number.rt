@@ -1,0 +1,88 @@
+// The numbers of a plain PGM, each read from an offset of the input on. No reader moves along the input, since each of its contracts would
+// have to say that the input stays as it was.
+ghost use Rattle.std.specs.Prelude.{◌≡◌, ◌≤◌, ◌&&◌, false, length, drop, Some, MatchResult, nat_le};
+ghost use Rattle.netpbm.specs.Words.{start, capped, spelled, word_from, Spells};
+ghost use Rattle.netpbm.specs.Pgm.{told, told_by, number_fault};
+
+use crate::digits::append_digit;
+use crate::fault::Fault;
+use crate::separator::is_separator;
+use refusal::Refusal;
+
+// A number of the file, the offset of its first digit, and the offset behind its last.
+#[derive(Clone, Copy)]
+pub struct Number {
+    pub value: u16,
+    pub offset: usize,
+    pub end: usize,
+}
+
+// The bytes from an offset on; none behind the end.
+fn rest(input: &[u8], at: usize) -> &[u8]
+    ensures { result.now ≡ drop at input.now }
+{
+    input.get(at..).unwrap_or(&[])
+}
+
+// Where the next word begins, behind the separators.
+fn start(input: &[u8], at: usize) -> usize
+    ensures { result ≡ start input.now at }
+{
+    at + rest(input, at)
+        .iter()
+        .take_while(|byte| is_separator(**byte))
+        .count()
+}
+
+// The bytes up to the first separator or the end.
+fn word_from(bytes: &[u8]) -> &[u8]
+    ensures value { result.now ≡ word_from bytes.now }
+    ensures bound { length result.now ≤ length bytes.now }
+{
+    let length = bytes
+        .iter()
+        .take_while(|byte| !is_separator(**byte))
+        .count();
+    &bytes[..length]
+}
+
+// The number that a word spells; none where it has another byte than digits or is above 65,535.
+fn spelled(word: &[u8]) -> Option<u16>
+    ensures { result ≡ capped (spelled 0 word.now) }
+{
+    word.iter()
+        .try_fold(0, |value, byte| append_digit(value, *byte))
+}
+
+// The next number. It refuses with 13 one that is missing, malformed or above 65,535, and tells where it begins or should.
+pub(crate) fn next_number(input: &[u8], at: usize) -> Result<Number, Fault>
+    ensures { MatchResult result (λ n. Spells input.now at n.value n.offset n.end) (λ f. number_fault input.now at ≡ Some (told_by f)) }
+{
+    let offset = start(input, at);
+    let fault = Fault {
+        refusal: Refusal::NotANumber,
+        offset,
+    };
+    if offset >= input.len() {
+        return Err(fault);
+    }
+    let word = word_from(rest(input, offset));
+    let value = spelled(word).ok_or(fault)?;
+    let end = offset + word.len();
+    Ok(Number { value, offset, end })
+}
+
+impl Number {
+    // The number as a byte. It refuses with 14, at the number's offset, one outside the range.
+    pub(crate) fn within(self, least: u8, most: u8) -> Result<u8, Fault>
+        ensures { MatchResult result (λ v. (v ≡ self.value) × (least ≤ v) × (v ≤ most)) (λ f. (told_by f ≡ told 14 self.offset) × ((nat_le least self.value && nat_le self.value most) ≡ false)) }
+    {
+        match u8::try_from(self.value) {
+            Ok(byte) if (least..=most).contains(&byte) => Ok(byte),
+            _ => Err(Fault {
+                refusal: Refusal::SampleOutsideRange,
+                offset: self.offset,
+            }),
+        }
+    }
+}
