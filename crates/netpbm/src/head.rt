@@ -4,7 +4,7 @@ ghost use Rattle.grid.specs.Limits.{Within};
 ghost use Rattle.netpbm.specs.Pgm.{told, told_by, begins, head_fault, HeadRead};
 
 use crate::fault::Fault;
-use crate::number::{Number, next_number};
+use crate::number::{Number, Reader};
 use grid::Size;
 use refusal::Refusal;
 
@@ -25,13 +25,14 @@ fn size_of(rows: Number, columns: Number) -> Result<Size, Fault>
 
 // Reads columns, rows and the greatest sample, for a band of so many bytes. It refuses with 13 a number, then with 1 the size, then
 // with 14 a greatest sample outside 1 to 255, then with 6 a band that is shorter than the drawing has squares.
-pub(crate) fn read_head(input: &[u8], room: usize) -> Result<Head, Fault>
-    requires { begins input.now ≡ true }
-    ensures { MatchResult result (λ h. HeadRead input.now room h.size.rows h.size.columns h.greatest h.end) (λ f. head_fault input.now room ≡ Some (told_by f)) }
+pub(crate) fn read_head(reader: &Reader<'_>, room: usize) -> Result<Head, Fault>
+    requires position { reader.now.position ≡ 2 }
+    requires begun { begins reader.now.input.now ≡ true }
+    ensures { MatchResult result (λ h. HeadRead reader.now.input.now room h.size.rows h.size.columns h.greatest h.end) (λ f. head_fault reader.now.input.now room ≡ Some (told_by f)) }
 {
-    let columns = next_number(input, 2)?;
-    let rows = next_number(input, columns.end)?;
-    let last = next_number(input, rows.end)?;
+    let columns = reader.next_number()?;
+    let rows = reader.at(columns.end).next_number()?;
+    let last = reader.at(rows.end).next_number()?;
     let size = size_of(rows, columns)?;
     let greatest = last.within(1, 255)?;
     if room < size.squares() {

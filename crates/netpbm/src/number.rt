@@ -1,5 +1,4 @@
-// The numbers of a plain PGM, each read from an offset of the input on. No reader moves along the input, since each of its contracts would
-// have to say that the input stays as it was.
+// The words of a plain PGM, and the numbers that they spell.
 ghost use Rattle.std.specs.Prelude.{◌≡◌, ◌≤◌, ◌&&◌, false, length, drop, Some, MatchResult, nat_le};
 ghost use Rattle.netpbm.specs.Words.{start, capped, spelled, word_from, Spells};
 ghost use Rattle.netpbm.specs.Pgm.{told, told_by, number_fault};
@@ -54,22 +53,43 @@ fn spelled(word: &[u8]) -> Option<u16>
         .try_fold(0, |value, byte| append_digit(value, *byte))
 }
 
-// The next number. It refuses with 13 one that is missing, malformed or above 65,535, and tells where it begins or should.
-pub(crate) fn next_number(input: &[u8], at: usize) -> Result<Number, Fault>
-    ensures { MatchResult result (λ n. Spells input.now at n.value n.offset n.end) (λ f. number_fault input.now at ≡ Some (told_by f)) }
-{
-    let offset = start(input, at);
-    let fault = Fault {
-        refusal: Refusal::NotANumber,
-        offset,
-    };
-    if offset >= input.len() {
-        return Err(fault);
+// The input, and how many of its bytes have been read. It is never moved along, but made anew at
+// another position, so that no contract has to say that the input stays as it was.
+#[derive(Clone, Copy)]
+pub struct Reader<'a> {
+    pub input: &'a [u8],
+    pub position: usize,
+}
+
+impl<'a> Reader<'a> {
+    // The reader of the same input at another position.
+    pub(crate) fn at(&self, position: usize) -> Reader<'a>
+        ensures input { result.input.now ≡ self.now.input.now }
+        ensures position { result.position ≡ position }
+    {
+        Reader {
+            input: self.input,
+            position,
+        }
     }
-    let word = word_from(rest(input, offset));
-    let value = spelled(word).ok_or(fault)?;
-    let end = offset + word.len();
-    Ok(Number { value, offset, end })
+
+    // The next number. It refuses with 13 one that is missing, malformed or above 65,535, and tells where it begins or should.
+    pub(crate) fn next_number(&self) -> Result<Number, Fault>
+        ensures { MatchResult result (λ n. Spells self.now.input.now self.now.position n.value n.offset n.end) (λ f. number_fault self.now.input.now self.now.position ≡ Some (told_by f)) }
+    {
+        let offset = start(self.input, self.position);
+        let fault = Fault {
+            refusal: Refusal::NotANumber,
+            offset,
+        };
+        if offset >= self.input.len() {
+            return Err(fault);
+        }
+        let word = word_from(rest(self.input, offset));
+        let value = spelled(word).ok_or(fault)?;
+        let end = offset + word.len();
+        Ok(Number { value, offset, end })
+    }
 }
 
 impl Number {

@@ -4,6 +4,7 @@ ghost use Rattle.netpbm.specs.Pgm.{told_by, begins, read_fault, DrawingRead, ton
 
 use crate::fault::Fault;
 use crate::head::read_head;
+use crate::number::Reader;
 use crate::samples::read_samples;
 use crate::separator::is_separator;
 use grid::Size;
@@ -32,8 +33,9 @@ pub fn read_pgm(input: &[u8], band: &mut [u8]) -> Result<Picture, Fault>
     if !does_begin(input) {
         return Err(Refusal::NotPlainPgm.into());
     }
-    let head = read_head(input, band.len())?;
-    let end = read_samples(input, head, band)?;
+    let reader = Reader { input, position: 2 };
+    let head = read_head(&reader, band.len())?;
+    let end = read_samples(&reader.at(head.end), head, band)?;
     let size = head.size;
     Ok(Picture { size, end })
 }

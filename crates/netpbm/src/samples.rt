@@ -5,7 +5,7 @@ ghost use Rattle.netpbm.specs.Pgm.{told_by, tone_of, sample_fault, SampleRead, f
 
 use crate::fault::Fault;
 use crate::head::Head;
-use crate::number::next_number;
+use crate::number::Reader;
 
 // A sample, and the offset behind it.
 #[derive(Clone, Copy)]
@@ -22,10 +22,10 @@ fn tone_of(sample: u8) -> u8
 }
 
 // The next sample. It refuses with 13 as any number is refused, then with 14 a sample above the greatest.
-fn read_sample(input: &[u8], at: usize, greatest: u8) -> Result<Sample, Fault>
-    ensures { MatchResult result (λ s. SampleRead input.now greatest at s.value s.end) (λ f. sample_fault input.now greatest at ≡ Some (told_by f)) }
+fn read_sample(reader: &Reader<'_>, greatest: u8) -> Result<Sample, Fault>
+    ensures { MatchResult result (λ s. SampleRead reader.now.input.now greatest reader.now.position s.value s.end) (λ f. sample_fault reader.now.input.now greatest reader.now.position ≡ Some (told_by f)) }
 {
-    let number = next_number(input, at)?;
+    let number = reader.next_number()?;
     Ok(Sample {
         value: number.within(0, greatest)?,
         end: number.end,
@@ -33,17 +33,17 @@ fn read_sample(input: &[u8], at: usize, greatest: u8) -> Result<Sample, Fault>
 }
 
 // Reads a sample for each square into the front of the band, up to the first one at fault, and answers the offset behind the last.
-pub(crate) fn read_samples(input: &[u8], head: Head, band: &mut [u8]) -> Result<usize, Fault>
-    requires position { head.end ≡ after input.now 3 }
-    requires greatest { head.greatest ≡ greatest_in input.now }
+pub(crate) fn read_samples(reader: &Reader<'_>, head: Head, band: &mut [u8]) -> Result<usize, Fault>
+    requires position { reader.now.position ≡ after reader.now.input.now 3 }
+    requires greatest { head.greatest ≡ greatest_in reader.now.input.now }
     requires room { head.size.rows * head.size.columns ≤ length band.old }
-    ensures fault { let count = head.size.rows * head.size.columns in MatchResult result (λ end. (first_fault input.now count ≡ None) × (end ≡ after input.now (3 + count))) (λ f. first_fault input.now count ≡ Some (told_by f)) }
-    ensures band { band.new ≡ filled input.now (sound input.now (head.size.rows * head.size.columns)) band.old }
+    ensures fault { let count = head.size.rows * head.size.columns in MatchResult result (λ end. (first_fault reader.now.input.now count ≡ None) × (end ≡ after reader.now.input.now (3 + count))) (λ f. first_fault reader.now.input.now count ≡ Some (told_by f)) }
+    ensures band { band.new ≡ filled reader.now.input.now (sound reader.now.input.now (head.size.rows * head.size.columns)) band.old }
 {
-    let mut at = head.end;
+    let mut at = reader.position;
     // by index, since of what is written through `iter_mut` a proof knows the length and no byte
     for i in 0..head.size.squares() {
-        let sample = read_sample(input, at, head.greatest)?;
+        let sample = read_sample(&reader.at(at), head.greatest)?;
         band[i] = tone_of(sample.value);
         at = sample.end;
     }

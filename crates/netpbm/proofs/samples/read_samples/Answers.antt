@@ -1,7 +1,7 @@
-use Rattle.std.proofs.Common.{◌≡◌, ◌+◌, ◌*◌, None, sym, refl, ap, ◌∙◌, arith}
+use Rattle.std.proofs.Common.{◌≡◌, ◌+◌, ◌*◌, None, sym, refl, ap, ◌∙◌, subst₂, arith}
 use Rattle.std.proofs.lemmas.Result.{err_from_is_err_and}
 use Rattle.netpbm.specs.Words.{after}
-use Rattle.netpbm.specs.Pgm.{first_fault}
+use Rattle.netpbm.specs.Pgm.{sample_fault, SampleRead, first_fault}
 use Rattle.netpbm.proofs.Faults.{fault_of, fault_more, fault_stays, sound_all, band_more, band_is, sample_fault_is, tone_is, next_is}
 use Rattle.netpbm.proofs.samples.read_samples.Goals as goal
 
@@ -11,10 +11,10 @@ loop-i-init c = record { place = c.requires.position; clean = refl; front = refl
 
 pub loop-i-preserved : goal.loop-i-preserved
 loop-i-preserved c =
-    let input = c.args.input.now in
+    let input = c.args.reader.now.input.now in
     let i = c.loop-i.i in
     let inv = c.loop-i.invariant in
-    let got = c.in_ok-sample.ensures in
+    let got = subst₂ (λ xs at. SampleRead xs c.args.head.greatest at c.in_ok-sample.sample.value c.in_ok-sample.sample.end) c.at.ensures.input c.at.ensures.position c.in_ok-sample.ensures in
     let good : fault_of input i ≡ None = sym (sample_fault_is input _ _ i c.requires.greatest inv.place) ∙ got.0 in
     let is = tone_is input _ i _ c.tone_of.result inv.place got.1 c.tone_of.ensures in
     let more = band_more input c.loop-i.band c.args.band.now i c.tone_of.result (omega arith) is inv.front inv.back in
@@ -27,18 +27,19 @@ loop-i-preserved c =
 
 pub returns-in_err-sample : goal.returns-in_err-sample
 returns-in_err-sample c =
-    let input = c.args.input.now in
+    let input = c.args.reader.now.input.now in
     let i = c.loop-i.i in
     let inv = c.loop-i.invariant in
     let count = c.args.head.size.rows * c.args.head.size.columns in
-    let bad = sym (sample_fault_is input _ _ i c.requires.greatest inv.place) ∙ c.in_err-sample.ensures in
+    let bad = sym (sample_fault_is input _ _ i c.requires.greatest inv.place)
+    ∙ sym (λ j. sample_fault (c.at.ensures.input j) c.args.head.greatest (c.at.ensures.position j)) ∙ c.in_err-sample.ensures in
     let stays = fault_stays input i _ inv.clean bad count (omega arith) in
     let p = err_from_is_err_and c.from_residual.result c.from_residual.ensures.1 in
     record { fault = rw (p.1, p.2) stays.0; band = band_is input c.loop-i.band c.args.band.now i _ stays.1 inv.front inv.back }
 
 pub returns : goal.returns
 returns c =
-    let input = c.args.input.now in
+    let input = c.args.reader.now.input.now in
     let inv = c.loop-i.invariant in
     let count = c.args.head.size.rows * c.args.head.size.columns in
     let e : c.loop-i.i ≡ count = omega arith in

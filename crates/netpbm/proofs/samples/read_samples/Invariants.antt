@@ -7,8 +7,8 @@ use Rattle.netpbm.proofs.samples.read_samples.Given as goal
 abbrev pub invariant-loop-i : goal.invariant-loop-i
 invariant-loop-i l =
     record {
-      place : l.at ≡ after l.input (3 + l.i);
-      clean : first_fault l.input l.i ≡ None;
-      front : take l.i l.band ≡ map (tone_in l.input) (range_with_len 0 l.i);
+      place : l.at ≡ after l.reader.input.now (3 + l.i);
+      clean : first_fault l.reader.input.now l.i ≡ None;
+      front : take l.i l.band ≡ map (tone_in l.reader.input.now) (range_with_len 0 l.i);
       back : drop l.i l.band ≡ drop l.i l.initial.band;
     }
