@@ -33,8 +33,7 @@ struct Lent {
 
 // The plan that was told, or Knuth's.
 fn plan_of(list: &Worklist) -> Pile {
-    list.plan
-        .unwrap_or_else(|| piled(Base::Knuth, [None; 5]))
+    list.plan.unwrap_or_else(|| piled(Base::Knuth, [None; 5]))
 }
 
 // The threshold that was told, or the usual one.
