@@ -16,8 +16,7 @@ fn codes_from(codes: &[u8], groups: usize) -> &[u8]
 pub fn pack_row<M: Mark>(codes: &[u8], out: &mut [u8])
     ensures { out.new ≡ packed M.marks (length out.old) codes.now }
 {
-    // by index, since of what is written through `iter_mut` a proof knows the length and no byte
-    for b in 0..out.len() {
-        out[b] = pack_byte::<M>(codes_from(codes, b));
+    for (b, byte) in out.iter_mut().enumerate() {
+        *byte = pack_byte::<M>(codes_from(codes, b));
     }
 }

@@ -1,6 +1,5 @@
 pub mod Converted
 pub mod Drafted
 pub mod DraftCodes
-pub mod Greys
 pub mod Packed
 pub mod Pictures

@@ -46,12 +46,6 @@ pub fn draft(input: &[u8], out: &mut [u8]) -> Result<usize, DraftFault>
         return Err(DraftFault::InputTooLong);
     }
     let mut band = [0u8; MOST_SQUARES];
-    let size = match read_pgm(input, &mut band) {
-        Ok(picture) => picture.size,
-        Err(fault) => return Err(DraftFault::Unread(fault)),
-    };
-    match write_draft(&size, &band[0..size.squares()], out) {
-        Ok(length) => Ok(length),
-        Err(_) => Err(DraftFault::OutputTooShort),
-    }
+    let size = read_pgm(input, &mut band)?.size;
+    write_draft(&size, &band[..size.squares()], out).or(Err(DraftFault::OutputTooShort))
 }

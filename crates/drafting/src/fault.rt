@@ -1,4 +1,7 @@
 // Why there is no draft.
+ghost use Rattle.std.specs.Prelude.{◌≡◌};
+ghost use Rattle.drafting.specs.declared.fault.DraftFault.TheVariants.{Unread};
+
 use netpbm::Fault;
 
 #[derive(Clone, Copy, PartialEq, Eq, Debug)]
@@ -9,4 +12,13 @@ pub enum DraftFault {
     Unread(Fault),
     // The draft is longer than the output.
     OutputTooShort,
+}
+
+// What Read refuses is told as it is.
+impl From<Fault> for DraftFault {
+    ghost from_gives = { λ fault told. told ≡ Unread fault };
+
+    fn from(fault: Fault) -> DraftFault {
+        DraftFault::Unread(fault)
+    }
 }

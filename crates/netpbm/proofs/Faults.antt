@@ -1,8 +1,8 @@
 -- The first fault among the samples, and the band up to it.
-use Rattle.std.proofs.Common.{◌≡◌, ℕ, zero, suc, ◌+◌, ◌<◌, cond, List, [], ◌∷◌, ◌++◌, map, length, take, drop, set, is_some, Some, None, Option, sym, refl, ap, ◌∙◌, ⊎_elim, add-one, arith}
+use Rattle.std.proofs.Common.{◌≡◌, ℕ, zero, suc, ◌+◌, ◌<◌, ◌≤◌, cond, List, [], ◌∷◌, ◌++◌, map, length, take, drop, set, is_some, Some, None, Option, sym, refl, ap, ◌∙◌, ⊎_elim, add-one, arith}
 use Rattle.std.specs.List.{range_with_len}
 use Rattle.std.proofs.lemmas.Bool.{cases_eq}
-use Rattle.std.proofs.lemmas.List.{take_more_set, drop-set-lt, drop-drop, take-append-drop}
+use Rattle.std.proofs.lemmas.List.{append_assoc, take_more_set, drop-set-lt, drop-drop, drop-append-le, take-append-drop, length-take-le}
 use Rattle.std.proofs.lemmas.List.FromFn.{map-range_with_len_more}
 use Rattle.netpbm.specs.Words.{after, stop, value_at}
 use Rattle.netpbm.specs.Pgm.{Told, or_else, greatest_in, sample_fault, first_fault, sound, tone_of, tone_in, filled}
@@ -52,6 +52,15 @@ band_more input band old i v h is front back = (
 pub band_is : (input band old : List ℕ) (i n : ℕ) → n ≡ i → take i band ≡ map (tone_in input) (range_with_len 0 i) → drop i band ≡ drop i old → band ≡ filled input n old
 band_is input band old i n e front back =
     sym (take-append-drop i band) ∙ ap (λ l. l ++ drop i band) front ∙ ap (λ l. map (tone_in input) (range_with_len 0 i) ++ l) back ∙ ap (λ k. filled input k old) (sym e)
+
+-- a front of the band that is filled fills the band
+pub front_filled : (input front old : List ℕ) (i n c : ℕ) → n ≡ i → i ≤ c → c ≤ length old → take i front ≡ map (tone_in input) (range_with_len 0 i) → drop i front ≡ drop i (take c old)
+    → front ++ drop c old ≡ filled input n old
+front_filled input front old i n c e within room begun back =
+    ap (λ xs. xs ++ drop c old) (band_is input front (take c old) i n e begun back)
+    ∙ append_assoc (map (tone_in input) (range_with_len 0 n)) (drop n (take c old)) (drop c old)
+    ∙ ap (λ ys. map (tone_in input) (range_with_len 0 n) ++ ys)
+    (sym (drop-append-le n (take c old) (drop c old) (omega (arith, length-take-le c old room))) ∙ ap (drop n) (take-append-drop c old))
 
 -- what is read at the position of sample i: its fault, its tone, and where sample i + 1 is
 pub sample_fault_is : (input : List ℕ) (greatest at i : ℕ) → greatest ≡ greatest_in input → at ≡ after input (3 + i) → sample_fault input greatest at ≡ fault_of input i

@@ -41,10 +41,9 @@ pub(crate) fn read_samples(reader: &Reader<'_>, head: Head, band: &mut [u8]) -> 
     ensures band { band.new ≡ filled reader.now.input.now (sound reader.now.input.now (head.size.rows * head.size.columns)) band.old }
 {
     let mut at = reader.position;
-    // by index, since of what is written through `iter_mut` a proof knows the length and no byte
-    for i in 0..head.size.squares() {
+    for tone in band[..head.size.squares()].iter_mut() {
         let sample = read_sample(&reader.at(at), head.greatest)?;
-        band[i] = tone_of(sample.value);
+        *tone = tone_of(sample.value);
         at = sample.end;
     }
     Ok(at)
