@@ -22,7 +22,7 @@ pub(crate) fn put_raster(size: &Size, codes: &[u8], out: &mut [u8])
 {
     let columns = size.columns;
     let width = row_bytes(columns);
-    // by row and index, since of what is written through `chunks_exact_mut` a proof knows the length and no byte
+    // By row and index: of what is written through `chunks_exact_mut` a proof knows the length and no byte.
     for row in 0..size.rows {
         let from = row * columns;
         let to = row * width;

@@ -4,7 +4,8 @@ ghost use Rattle.plan.specs.Ranks.{Ranks, Lawful};
 
 use crate::plan::Plan;
 
-// The trait asks what `Plan` asks, of a layer and the plan below together.
+// The trait asks what `Plan` asks, of a layer and the plan below together. No body stands here, though most layers keep the periods: what a layer
+// keeps is told by its own `over` alone.
 pub trait Layer {
     // What the layer makes of the plan below.
     ghost over: { Self → Ranks → Ranks };

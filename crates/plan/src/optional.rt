@@ -5,6 +5,7 @@ ghost use Rattle.std.proofs.Common.{rules};
 use crate::layer::Layer;
 use crate::plan::Plan;
 
+// The two arms differ in type and no function can hand out a `dyn`, so each question is a match.
 impl<L: Layer> Layer for Option<L> {
     ghost over = { optional L.Layer.over };
 

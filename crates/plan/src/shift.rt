@@ -12,7 +12,7 @@ fn further(x: usize, by: u8, period: usize) -> usize
     requires most { period ≤ 16 }
     ensures { result ≡ along period by x }
 {
-    (x % period + by as usize) % period
+    (x % period + usize::from(by)) % period
 }
 
 // How many rows and how many columns.

@@ -5,7 +5,7 @@ mod conversions;
 pub(crate) mod nearest;
 mod write;
 
-// A colour of a palette, three bytes.
+// A colour of a palette, three bytes. A type of its own beside Colour, whose channels are signed and wider and stand for amounts.
 #[derive(Clone, Copy)]
 pub struct Entry {
     pub red: u8,

@@ -12,8 +12,8 @@ pub struct UnknownNumber(pub u8);
 impl TryFrom<u8> for Refusal {
     type Error = UnknownNumber;
 
-    // The refusal with this number, and none only where no refusal has it.
-    ghost try_from_gives = { λ number r. MatchResult r (λ refusal. number_of refusal ≡ number) (λ e. (refusal : Case) → number_of refusal ≡ number → ⊥) };
+    // The refusal with this number; the number back only where no refusal has it.
+    ghost try_from_gives = { λ number r. MatchResult r (λ refusal. number_of refusal ≡ number) (λ e. (e.0 ≡ number) × ((refusal : Case) → number_of refusal ≡ number → ⊥)) };
 
     fn try_from(number: u8) -> Result<Refusal, UnknownNumber> {
         match number {

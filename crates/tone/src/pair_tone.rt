@@ -5,6 +5,7 @@ ghost use Rattle.std.proofs.Common.{rules};
 use crate::pair::Pair;
 use crate::tone::Tone;
 
+// The halves are written out: a function that went through both would need a closure for two types.
 impl<L: Tone, R: Tone> Tone for Pair<L, R> {
     ghost algebra = { pair_algebra L.Tone.algebra R.Tone.algebra };
 
