@@ -1,18 +1,20 @@
 // Where the squares of a drawing lie, and which lies next to which. All by row and column: nothing is divided.
 ghost use Rattle.std.specs.Prelude.{◌≡◌, ◌<◌, MatchOption};
 ghost use Rattle.grid.specs.Directions.{number_of, down, across};
-ghost use Rattle.grid.specs.Lines.{plain, step, step_in};
+ghost use Rattle.grid.specs.Lines.{plain, step_in};
 ghost use Rattle.grid.specs.Neighbours.{place_of, neighbour};
 
 use crate::direction::{Direction, Step};
 use crate::size::Size;
 
-// The next row or column, the one before or the same, of so many; none where that is off the drawing.
+// The next row or column, the one before or the same, of so many; none where that is off the drawing, and none from outside it.
 fn stepped(at: usize, count: usize, to: Step) -> Option<usize>
-    requires { at < count }
-    ensures value { result ≡ step (plain count) to at }
+    ensures value { result ≡ step_in (plain count) to at }
     ensures bound { MatchOption result Unit (λ x. x < count) }
 {
+    if at >= count {
+        return None;
+    }
     match to {
         Step::Back => at.checked_sub(1),
         Step::Stay => Some(at),
@@ -26,9 +28,6 @@ impl Size {
         ensures value { result ≡ step_in (plain self.now.rows) (down (number_of direction)) row }
         ensures bound { MatchOption result Unit (λ x. x < self.now.rows) }
     {
-        if row >= self.rows {
-            return None;
-        }
         stepped(row, self.rows, direction.down())
     }
 
@@ -37,9 +36,6 @@ impl Size {
         ensures value { result ≡ step_in (plain self.now.columns) (across (number_of direction)) column }
         ensures bound { MatchOption result Unit (λ x. x < self.now.columns) }
     {
-        if column >= self.columns {
-            return None;
-        }
         stepped(column, self.columns, direction.across())
     }
 
@@ -58,11 +54,8 @@ impl Size {
     pub fn neighbour(&self, row: usize, column: usize, direction: Direction) -> Option<usize>
         ensures { result ≡ neighbour (plain self.now.rows) (plain self.now.columns) row column (number_of direction) }
     {
-        if row >= self.rows || column >= self.columns {
-            return None;
-        }
-        let next_row = stepped(row, self.rows, direction.down())?;
-        let next_column = stepped(column, self.columns, direction.across())?;
+        let next_row = self.row_beside(row, direction)?;
+        let next_column = self.column_beside(column, direction)?;
         Some(next_row * self.columns + next_column)
     }
 }
