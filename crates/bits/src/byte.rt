@@ -15,6 +15,7 @@ fn bit_at<M: Mark>(codes: &[u8], k: usize) -> u8
 pub fn pack_byte<M: Mark>(codes: &[u8]) -> u8
     ensures { result ≡ byte_of M.marks codes.now }
 {
+    // A loop and no fold, which was tried: behind a fold no bound of the byte at each turn was found, and the doubling may then be too large.
     let mut byte: u8 = 0;
     for k in 0..8usize {
         byte = byte * 2 + bit_at::<M>(codes, k);

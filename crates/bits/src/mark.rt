@@ -2,8 +2,8 @@
 ghost use Rattle.std.specs.Prelude.{◌≡◌, ℕ, Bool};
 ghost use Rattle.bits.specs.Bits.{black, fixed};
 
-// A test of codes. It is a trait and no closure, since a contract names its meaning, the function `marks`, where of a closure it could only
-// say which results its calls may have.
+// A test of codes. It is a trait and no closure, since a contract names its meaning, the function `marks`, where for a closure each contract would
+// need a further clause on the results that its calls may have.
 pub trait Mark {
     ghost marks: { ℕ → Bool };
 

@@ -114,10 +114,6 @@ module _ (plan : Ranks) (law : plans.Lawful plan) where
           ];
     }
 
--- the next number modulo q
-pub next_modulo : (q row phase next : ℕ) → phase ≡ row % q → next ≡ (phase + 1) % q → next ≡ (row + 1) % q
-next_modulo q row phase next is to = to ∙ ap (λ n. (n + 1) % q) is ∙ mod-add-mod row q 1
-
 module _ (rows columns : ℕ) (plan : Ranks) (law : plans.Lawful plan) (row from to : ℕ) (at : Inner rows columns row from to) (on : from ≤ to)
     (periods : to % plan.column_period ≡ from % plan.column_period) where
   same_kind : (d : ℕ) → kind_of (plain_drawing rows columns plan) (row * columns + from) d ≡ kind_of (plain_drawing rows columns plan) (row * columns + to) d

@@ -14,6 +14,7 @@ pub(crate) fn put_decimal(n: usize, out: &mut [u8])
     requires { length out.old ≡ length (decimal n) }
     ensures { out.new ≡ decimal n }
 {
+    // A digit fits a byte, as is proved: `try_from` would answer a Result that is always Ok.
     if n < 10 {
         out[0] = b'0' + n as u8;
     } else {

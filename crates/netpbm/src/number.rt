@@ -53,8 +53,8 @@ fn spelled(word: &[u8]) -> Option<u16>
         .try_fold(0, |value, byte| append_digit(value, *byte))
 }
 
-// The input, and how many of its bytes have been read. It is never moved along, but made anew at
-// another position, so that no contract has to say that the input stays as it was.
+// The input, and how many of its bytes have been read. Magic, head and samples are read through it, one behind the other. It is never moved along,
+// but made anew at another position, so that no contract has to say that the input stays as it was.
 #[derive(Clone, Copy)]
 pub struct Reader<'a> {
     pub input: &'a [u8],

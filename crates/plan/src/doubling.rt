@@ -74,6 +74,7 @@ impl Plan for Doubling {
 
     fn top(&self) -> u8 {
         let s = period(self.order);
+        // At most 255, as is proved: `try_from` would answer a Result that is always Ok.
         (s * s - 1) as u8
     }
 

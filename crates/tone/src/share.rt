@@ -30,5 +30,6 @@ pub(crate) fn part(e: i32, weight: u8, total: u8) -> i32
     requires most { total ≤ 12 }
     ensures { result ≡ part_of e weight total }
 {
+    // A part fits 32 bits, as is proved: `try_from` would answer a Result that is always Ok.
     divided(i64::from(e) * i64::from(weight), total) as i32
 }

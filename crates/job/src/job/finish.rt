@@ -16,15 +16,6 @@ use quantiser::Quantiser;
 use refusal::Refusal;
 use std::array;
 
-// The number after a phase of a period: rows are counted by it without a division.
-fn next_phase(phase: usize, period: usize) -> usize
-    requires { phase < period }
-    ensures value { result ≡ (phase + 1) % period }
-    ensures bound { result ≤ phase + 1 }
-{
-    if phase + 1 < period { phase + 1 } else { 0 }
-}
-
 impl<P: Plan, Q: Quantiser> Job<P, Q> {
     // Fixes the square at a place, whose pattern is told, if it is open, and answers how many were fixed: 1 or 0. The squares of lower rank are
     // fixed, so that none has to be asked.
@@ -187,11 +178,9 @@ impl<P: Plan, Q: Quantiser> Job<P, Q> {
     {
         let firsts = self.first_columns(rank);
         let period = self.plan.row_period();
-        let mut phase = 0;
         let mut count = 0;
         for row in 0..self.size.rows {
-            count += self.pass_row(amounts, codes, rank, row, firsts[phase]);
-            phase = next_phase(phase, period);
+            count += self.pass_row(amounts, codes, rank, row, firsts[row % period]);
         }
         count
     }

@@ -42,6 +42,7 @@ impl Palette {
         }
         *self = Palette {
             entries: entries_of(threes),
+            // At most 16, as is proved: `try_from` would answer a Result that is always Ok.
             len: threes.len() as u8,
         };
         Ok(())
