@@ -1,6 +1,7 @@
 -- What a part of a replay leaves: the amounts, or nothing where a code was wrong.
-use Rattle.std.specs.Prelude.{◌≡◌, ℕ, suc, true, false, List, Some, None, Option, Ok, Err, Result, is_ok}
+use Rattle.std.specs.Prelude.{◌≡◌, ℕ, suc, true, false, List, Some, None, Option, Ok, Err, Result, is_ok, IfErr}
 use Rattle.refusal.specs.declared.refusal.Refusal.{Refusal}
+use Rattle.refusal.specs.declared.refusal.Refusal.TheVariants.{WrongCode}
 use Rattle.diffusion.specs.Draft.{Setting}
 use Rattle.model.specs.Replays.{codes_in, replay}
 use Rattle.job.specs.Coded.{EachCoded}
@@ -18,3 +19,4 @@ pub record Reworked {T : Type 0} (j : Setting T) (top : ℕ) (drawing : List T) 
   pub amounts_are : is_ok r ≡ true → replay j (codes_in j.squares.count rec) (Some drawing) (suc top) ≡ Some amounts
   -- one was not
   pub failed : is_ok r ≡ false → EachCoded j.squares.count rec → replay j (codes_in j.squares.count rec) (Some drawing) (suc top) ≡ None
+  pub reason : IfErr r (λ e. e ≡ WrongCode)

@@ -10,6 +10,7 @@ use grid::Size;
 use refusal::Refusal;
 
 // The bits of a record that is well formed for their size.
+// Its size is its own; that it is the job's is asked where it matters, since a record knows no job.
 #[derive(Clone, Copy)]
 pub struct Record<'a> {
     pub bits: BitMap<'a>,

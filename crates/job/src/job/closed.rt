@@ -30,11 +30,8 @@ impl<P: Plan, Q: Quantiser> Job<P, Q> {
         requires { saved.now.bits.size ≡ self.now.size }
         ensures { result ≡ closed_by (squares_of P.Plan.meaning self.now) (stands saved.now.bits.bytes.now) }
     {
-        for square in self.size.in_reading_order() {
-            if !self.is_square_closed(saved, square) {
-                return false;
-            }
-        }
-        true
+        self.size
+            .in_reading_order()
+            .all(|square| self.is_square_closed(saved, square))
     }
 }

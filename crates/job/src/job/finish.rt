@@ -66,6 +66,7 @@ impl<P: Plan, Q: Quantiser> Job<P, Q> {
     }
 
     // The same for each row of the first period: asked once for a rank, they serve every row.
+    // An array for the longest period and no Vec, since nothing here allocates.
     fn first_columns(&self, rank: u8) -> [Option<usize>; 16]
         ensures full { length result ≡ 16 }
         ensures each { (row : ℕ) → row < (P.Plan.meaning self.now.plan).row_period → row < self.now.size.rows → First self.now.size.columns (P.Plan.meaning self.now.plan) rank row (slice_index_or result row None) }

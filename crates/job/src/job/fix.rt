@@ -20,6 +20,7 @@ use refusal::Refusal;
 impl<P: Plan, Q: Quantiser> Job<P, Q> {
     // Fixes the square at a place, whose pattern is told, if it is open, and answers how many were fixed: 1 or 0. Its neighbours are not asked:
     // Fix has asked them before, and Finish need not.
+    // A count and no bool, since a pass adds it up.
     pub(crate) fn take(
         &self,
         amounts: &mut [Q::Tone],

@@ -28,6 +28,7 @@ impl<P: Plan, Q: Quantiser> Job<P, Q> {
     }
 
     // Fixes the squares at the places of a list in turn, up to the first refusal: how many were accepted, and the refusal's number or 0.
+    // A pair with a number, the form that callers hold: what was accepted before a refusal stands, so no Result would do.
     pub fn follow(
         &self,
         drawing: &[Q::Tone],
@@ -40,13 +41,11 @@ impl<P: Plan, Q: Quantiser> Job<P, Q> {
         if !self.lengths_match(drawing, amounts, codes) {
             return (0, Refusal::BandLength.number());
         }
-        let mut count = 0;
-        for place in places {
-            match self.fix_place(amounts, codes, *place) {
-                Ok(_) => count += 1,
-                Err(refusal) => return (count, refusal.number()),
+        for (count, place) in places.iter().enumerate() {
+            if let Err(refusal) = self.fix_place(amounts, codes, *place) {
+                return (count, refusal.number());
             }
         }
-        (count, 0)
+        (places.len(), 0)
     }
 }

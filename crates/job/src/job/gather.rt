@@ -20,7 +20,7 @@ fn weights_of(kinds: &[Kind; 8]) -> u8
 {
     let mut weights = 0;
     for direction in Direction::ALL {
-        if let Kind::Higher = kind_in(kinds, direction) {
+        if kind_in(kinds, direction) == Kind::Higher {
             weights += direction.weight();
         }
     }
@@ -34,7 +34,7 @@ fn last_of(kinds: &[Kind; 8]) -> Option<Direction>
 {
     let mut last = None;
     for direction in Direction::ALL {
-        if let Kind::Higher = kind_in(kinds, direction) {
+        if kind_in(kinds, direction) == Kind::Higher {
             last = Some(direction);
         }
     }

@@ -37,6 +37,7 @@ pub fn open_bands<T: Copy>(
 impl<P: Plan, Q: Quantiser> Job<P, Q> {
     // Opens a job: 0 and the job, with every square open and the drawing in the amounts; or the number of a refusal, 1 for the size and then
     // 2 for a band, and a job of one square. The number stands beside the job so that plan and quantiser are never lost to a refusal.
+    // A pair is the form that callers hold: a Result would have to hand plan and quantiser back in its error.
     pub fn open(
         rows: usize,
         columns: usize,

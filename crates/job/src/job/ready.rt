@@ -44,11 +44,6 @@ impl<P: Plan, Q: Quantiser> Job<P, Q> {
         requires pattern { PatternOf (squares_of P.Plan.meaning self.now) place pattern.now }
         ensures { (set : ℕ → Bool) → ((t : ℕ) (r : Bool) → t < self.now.size.rows * self.now.size.columns → F.post is_fixed t r → r ≡ set t) → result ≡ ready_by (squares_of P.Plan.meaning self.now) set place 8 }
     {
-        for direction in Direction::ALL {
-            if !self.is_free(&is_fixed, place, pattern, direction) {
-                return false;
-            }
-        }
-        true
+        Direction::ALL.iter().all(|direction| self.is_free(&is_fixed, place, pattern, *direction))
     }
 }

@@ -1,5 +1,6 @@
 // The squares that stand in a code band, worked again from the drawing: rank by rank, and each rank in reading order.
-ghost use Rattle.std.specs.Prelude.{◌≡◌, suc, ◌*◌, length, Some};
+ghost use Rattle.std.specs.Prelude.{◌≡◌, suc, ◌*◌, length, Some, IfErr};
+ghost use Rattle.refusal.specs.declared.refusal.Refusal.TheVariants.{WrongCode};
 ghost use Rattle.grid.specs.Squares.{Inside};
 ghost use Rattle.model.specs.Replays.{replay_visit, replay_sweep, replay};
 ghost use Rattle.job.specs.Meaning.{setting_by};
@@ -24,7 +25,8 @@ impl<P: Plan, Q: Quantiser> Job<P, Q> {
         requires square { Inside self.now.size square }
         requires amounts { length amounts.old ≡ self.now.size.rows * self.now.size.columns }
         requires codes { length codes.now ≡ self.now.size.rows * self.now.size.columns }
-        ensures { kept_if result amounts.new ≡ replay_visit (setting_by Q.Tone.Tone.algebra P.Plan.meaning Q.Quantiser.tables self.now) codes.now rank square.place (Some amounts.old) }
+        ensures reason { IfErr result (λ e. e ≡ WrongCode) }
+        ensures kept { kept_if result amounts.new ≡ replay_visit (setting_by Q.Tone.Tone.algebra P.Plan.meaning Q.Quantiser.tables self.now) codes.now rank square.place (Some amounts.old) }
     {
         let written = codes[square.place];
         if written == OPEN {
@@ -44,7 +46,8 @@ impl<P: Plan, Q: Quantiser> Job<P, Q> {
     fn replay_rank(&self, amounts: &mut [Q::Tone], codes: &[u8], rank: u8) -> Result<(), Refusal>
         requires amounts { length amounts.old ≡ self.now.size.rows * self.now.size.columns }
         requires codes { length codes.now ≡ self.now.size.rows * self.now.size.columns }
-        ensures { kept_if result amounts.new ≡ replay_sweep (setting_by Q.Tone.Tone.algebra P.Plan.meaning Q.Quantiser.tables self.now) codes.now rank (Some amounts.old) (self.now.size.rows * self.now.size.columns) }
+        ensures reason { IfErr result (λ e. e ≡ WrongCode) }
+        ensures kept { kept_if result amounts.new ≡ replay_sweep (setting_by Q.Tone.Tone.algebra P.Plan.meaning Q.Quantiser.tables self.now) codes.now rank (Some amounts.old) (self.now.size.rows * self.now.size.columns) }
     {
         for square in self.size.in_reading_order() {
             self.replay_square(amounts, codes, square, rank)?;
@@ -56,7 +59,8 @@ impl<P: Plan, Q: Quantiser> Job<P, Q> {
     pub(crate) fn replay(&self, amounts: &mut [Q::Tone], codes: &[u8]) -> Result<(), Refusal>
         requires amounts { length amounts.old ≡ self.now.size.rows * self.now.size.columns }
         requires codes { length codes.now ≡ self.now.size.rows * self.now.size.columns }
-        ensures { kept_if result amounts.new ≡ replay (setting_by Q.Tone.Tone.algebra P.Plan.meaning Q.Quantiser.tables self.now) codes.now (Some amounts.old) (suc (P.Plan.meaning self.now.plan).top) }
+        ensures reason { IfErr result (λ e. e ≡ WrongCode) }
+        ensures kept { kept_if result amounts.new ≡ replay (setting_by Q.Tone.Tone.algebra P.Plan.meaning Q.Quantiser.tables self.now) codes.now (Some amounts.old) (suc (P.Plan.meaning self.now.plan).top) }
     {
         for rank in 0..=self.plan.top() {
             self.replay_rank(amounts, codes, rank)?;

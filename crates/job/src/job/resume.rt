@@ -53,10 +53,10 @@ impl<P: Plan, Q: Quantiser> Job<P, Q> {
         if !self.is_closed(&record) {
             return Err(Refusal::LowerNeighbourMissing);
         }
-        if self.rework(drawing, amounts, codes, &record).is_err() {
+        if let Err(refusal) = self.rework(drawing, amounts, codes, &record) {
             codes.fill(OPEN);
             amounts.copy_from_slice(drawing);
-            return Err(Refusal::WrongCode);
+            return Err(refusal);
         }
         Ok(())
     }

@@ -57,7 +57,7 @@ impl<P: Plan, Q: Quantiser> Job<P, Q> {
         let side = error.share(2, pattern.weights);
         let mut given = Q::Tone::zero();
         for direction in Direction::ALL {
-            if let Kind::Higher = pattern.kind(direction) {
+            if pattern.kind(direction) == Kind::Higher {
                 let part = part_for(direction, last, error.difference(given), side, corner);
                 given = given.sum(part);
                 add(

@@ -1,9 +1,7 @@
-use Rattle.std.proofs.Common.{◌≡◌}
 use Rattle.model.proofs.OneMore.{FollowedTo}
 use Rattle.job.specs.Meaning.{meant, band}
 use Rattle.job.proofs.job.Job.follow.Given as goal
 
-abbrev pub invariant-loop-place : goal.invariant-loop-place
-invariant-loop-place g l =
-    (l.count ≡ l.place-index)
-    × FollowedTo (meant g.Q.Tone.Tone.algebra g.P.Plan.meaning g.Q.Quantiser.tables l.self l.drawing).setting (band l.initial.codes l.initial.amounts) l.places l.place-index (band l.codes l.amounts)
+abbrev pub invariant-loop-count : goal.invariant-loop-count
+invariant-loop-count g l =
+    FollowedTo (meant g.Q.Tone.Tone.algebra g.P.Plan.meaning g.Q.Quantiser.tables l.self l.drawing).setting (band l.initial.codes l.initial.amounts) l.places l.count (band l.codes l.amounts)

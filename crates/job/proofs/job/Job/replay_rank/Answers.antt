@@ -17,17 +17,17 @@ loop-square-preserved g c =
     let j = setting_by g.Q.Tone.Tone.algebra g.P.Plan.meaning g.Q.Quantiser.tables c.args.self.now in
     let step = c.in-Some.ensures.steps in
     let inv = c.loop-square.invariant in
-    let worked = c.in_ok-replay_square.ensures ∙ ap (λ n. replay_visit j c.args.codes.now c.args.rank n (Some c.loop-square.amounts)) step.1.is in
+    let worked = c.in_ok-replay_square.ensures.kept ∙ ap (λ n. replay_visit j c.args.codes.now c.args.rank n (Some c.loop-square.amounts)) step.1.is in
     (tt, tt, step.0 ∙ inv.2, place_again j c.args.codes.now c.args.rank _ _ _ _ inv.3 worked ∙ ap (replay_sweep j c.args.codes.now c.args.rank _) (sym step.1.rises))
 
-pub returns-in_err-replay_square : goal.returns-in_err-replay_square
-returns-in_err-replay_square g c =
+pub returns-in_err-replay_square-clause-kept : goal.returns-in_err-replay_square-clause-kept
+returns-in_err-replay_square-clause-kept g c =
     let size = c.args.self.now.size in
     let j = setting_by g.Q.Tone.Tone.algebra g.P.Plan.meaning g.Q.Quantiser.tables c.args.self.now in
     let step = c.in-Some.ensures.steps in
     let inv = c.loop-square.invariant in
     let below = place-below size c.in-Some.square (inside-same _ _ c.in-Some.square inv.2 step.1.inside) in
-    let worked = c.in_err-replay_square.ensures ∙ ap (λ n. replay_visit j c.args.codes.now c.args.rank n (Some c.loop-square.amounts)) step.1.is in
+    let worked = c.in_err-replay_square.ensures.kept ∙ ap (λ n. replay_visit j c.args.codes.now c.args.rank n (Some c.loop-square.amounts)) step.1.is in
     let n = c.loop-square.square-iterator.place in
     let within : n + 1 ≤ size.rows * size.columns = omega (arith, below, step.1.is) in
     kept_none c.from_residual.result _ c.from_residual.ensures.0

@@ -4,15 +4,15 @@ use Rattle.job.proofs.Reading.{place-below, square-rank}
 use Rattle.job.proofs.Working.{visit_other, visit_right, visit_wrong}
 use Rattle.job.proofs.job.Job.replay_square.Goals as goal
 
-pub returns-then-rank : goal.returns-then-rank
-returns-then-rank g c =
+pub returns-then-rank-clause-kept : goal.returns-then-rank-clause-kept
+returns-then-rank-clause-kept g c =
     let j = c.args.self.now in
     let rank = square-rank j.size (g.P.Plan.meaning j.plan) (g.met.P.Plan.lawful j.plan) c.args.square c.requires.square in
     visit_other (setting_by g.Q.Tone.Tone.algebra g.P.Plan.meaning g.Q.Quantiser.tables j) c.args.codes.now c.args.rank c.args.square.place c.args.amounts.now
     (λ e. c.if-rank.true (c.rank.ensures ∙ sym rank ∙ e))
 
-pub returns-then-quantise-written : goal.returns-then-quantise-written
-returns-then-quantise-written g c =
+pub returns-then-quantise-written-clause-kept : goal.returns-then-quantise-written-clause-kept
+returns-then-quantise-written-clause-kept g c =
     let j = c.args.self.now in
     let s = c.args.square.place in
     let inside : s < length c.args.codes.now = omega (arith, place-below j.size c.args.square c.requires.square) in
@@ -20,8 +20,8 @@ returns-then-quantise-written g c =
     visit_wrong (setting_by g.Q.Tone.Tone.algebra g.P.Plan.meaning g.Q.Quantiser.tables j) c.args.codes.now c.args.rank s c.args.amounts.now
     (rank ∙ sym c.rank.ensures ∙ c.if-rank.false) inside c.if-written.false c.quantise.result c.quantise.ensures.code c.if-quantise-written.true
 
-pub returns : goal.returns
-returns g c =
+pub returns-clause-kept : goal.returns-clause-kept
+returns-clause-kept g c =
     let j = c.args.self.now in
     let s = c.args.square.place in
     let inside : s < length c.args.codes.now = omega (arith, place-below j.size c.args.square c.requires.square) in
