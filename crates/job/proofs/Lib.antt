@@ -16,6 +16,7 @@ pub mod Passes
 pub mod Ranges
 mod Readies
 mod Reading
+pub mod ReadingOrders
 pub mod Refusing
 pub mod Resuming
 pub mod Standing
