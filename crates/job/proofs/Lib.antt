@@ -2,8 +2,10 @@ pub mod AnyDrawing
 pub mod Around
 pub mod Attempts
 pub mod Barons
+pub mod Bounded
 pub mod Eight
 mod Fitting
+pub mod Folds
 pub mod Forms
 pub mod Kept
 pub mod KindLists
