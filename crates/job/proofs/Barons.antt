@@ -1,6 +1,7 @@
 -- One square more among those whose errors are lost.
-use Rattle.std.proofs.Common.{◌≡◌, ℕ, zero, suc, ◌+◌, ◌<◌, ◌≤◌, Bool, true, false, cond, not, ◌&&◌, eqb, List, [], ◌∷◌, ◌++◌, length, get_or, sym, refl, ap, ◌∙◌, inl, inr, add-one, arith}
-use Rattle.std.proofs.lemmas.List.{append-nil, length_push}
+use Rattle.std.proofs.Common.{◌≡◌, ℕ, zero, suc, ◌+◌, ◌<◌, ◌≤◌, Bool, true, false, cond, not, ◌&&◌, eqb, List, [], ◌∷◌, ◌++◌, length, get_or, filter, sym, refl, ap, ◌∙◌, inl, inr, add-zero, add-one, arith}
+use Rattle.std.specs.List.{range_with_len}
+use Rattle.std.proofs.lemmas.List.{append-nil, append_assoc, length_push}
 use Rattle.std.proofs.lemmas.Bool.{cases_Bool, cases_eq}
 use Rattle.diffusion.specs.Bands.{standing}
 use Rattle.diffusion.specs.Neighbourhoods.{Neighbourhood, baron}
@@ -56,3 +57,27 @@ module _ (squares : Neighbourhood) (codes : List ℕ) where
 
   pub count_same : (i many : ℕ) → (standing codes i && baron squares i) ≡ false → many ≡ length (lost_below squares codes i) → many ≡ length (lost_below squares codes (i + 1))
   count_same i many is counted = omega (arith, ap length (lost-same i is))
+
+  -- as a list of places that pass the test
+  abbrev pub is_lost : ℕ → Bool
+  is_lost n = not (eqb (get_or codes n 0) 255) && baron squares n
+
+  -- those of n places from k on, behind those below k
+  filter_from : (k n : ℕ) → k + n ≤ length codes → lost_below squares codes k ++ filter is_lost (range_with_len k n) ≡ lost_below squares codes (k + n)
+  filter_from k zero h = append-nil (lost_below squares codes k) ∙ ap (lost_below squares codes) (sym (add-zero k))
+  filter_from k (suc n) h =
+      let inside : k < length codes = omega arith in
+      let read : is_lost k ≡ (standing codes k && baron squares k) = lost_read codes k inside squares (is_lost k) refl in
+      let rest = filter is_lost (range_with_len (k + 1) n) in
+      let next : k + 1 + n ≡ k + suc n = omega arith in
+      elim (cases_Bool (is_lost k)) [
+        | inl is ↦ ap (λ b. lost_below squares codes k ++ cond b (k ∷ rest) rest) is ∙ sym (append_assoc (lost_below squares codes k) (k ∷ []) rest)
+            ∙ ap (λ l. l ++ rest) (sym (lost_more k (sym read ∙ is))) ∙ filter_from (k + 1) n (omega arith) ∙ ap (lost_below squares codes) next
+        | inr is ↦ ap (λ b. lost_below squares codes k ++ cond b (k ∷ rest) rest) is
+            ∙ ap (λ l. l ++ rest) (sym (lost-same k (sym read ∙ is))) ∙ filter_from (k + 1) n (omega arith) ∙ ap (lost_below squares codes) next
+      ]
+
+  pub filter_all : (n : ℕ) → n ≤ length codes → filter is_lost (range_with_len 0 n) ≡ lost_below squares codes n
+  filter_all n h =
+      let all : 0 + n ≡ n = omega arith in
+      ap (λ l. l ++ filter is_lost (range_with_len 0 n)) (sym lost-none) ∙ filter_from 0 n (omega arith) ∙ ap (lost_below squares codes) all

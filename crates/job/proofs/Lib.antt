@@ -2,8 +2,10 @@ pub mod AnyDrawing
 pub mod Around
 pub mod Attempts
 pub mod Barons
+pub mod Bounded
 pub mod Eight
 mod Fitting
+pub mod Folds
 pub mod Forms
 pub mod Kept
 pub mod KindLists
@@ -16,6 +18,7 @@ pub mod Passes
 pub mod Ranges
 mod Readies
 mod Reading
+pub mod ReadingOrders
 pub mod Refusing
 pub mod Resuming
 pub mod Standing

@@ -117,16 +117,14 @@ impl<P: Plan, Q: Quantiser> Job<P, Q> {
         ensures after { progress result (band codes.new amounts.new) ≡ passed_from (setting_by Q.Tone.Tone.algebra P.Plan.meaning Q.Quantiser.tables self.now) rank (row * self.now.size.columns) self.now.size.columns (band codes.old amounts.old) }
     {
         let start = row * self.size.columns;
-        let period = self.plan.column_period();
         let mut count = 0;
-        let mut column = first;
         let mut known = first;
         let mut pattern = self.pattern(Square {
             row,
             column: first,
             place: start + first,
         });
-        while column < self.size.columns {
+        for column in (first..self.size.columns).step_by(self.plan.column_period()) {
             if !self.is_inner(row, known, column) {
                 known = column;
                 pattern = self.pattern(Square {
@@ -136,7 +134,6 @@ impl<P: Plan, Q: Quantiser> Job<P, Q> {
                 });
             }
             count += self.visit(amounts, codes, start + column, &pattern);
-            column += period;
         }
         count
     }

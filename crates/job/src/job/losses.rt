@@ -17,13 +17,10 @@ impl<P: Plan, Q: Quantiser> Job<P, Q> {
         requires { length codes.now ≡ self.now.size.rows * self.now.size.columns }
         ensures { result ≡ length (lost_below (squares_of P.Plan.meaning self.now) codes.now (self.now.size.rows * self.now.size.columns)) }
     {
-        let mut count = 0;
-        for square in self.size.in_reading_order() {
-            if self.is_lost(codes[square.place], square) {
-                count += 1;
-            }
-        }
-        count
+        self.size
+            .in_reading_order()
+            .filter(|square| self.is_lost(codes[square.place], *square))
+            .count()
     }
 
     // Lists place and error of each fixed baron by rising place, and answers how many there are, in lists with room for all.

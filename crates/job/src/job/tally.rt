@@ -19,13 +19,11 @@ fn sum_open<T: Tone>(amounts: &[T], codes: &[u8]) -> T
     requires { length codes.now ≡ length amounts.now }
     ensures { result ≡ total_of T.algebra (open_at T.algebra codes.now amounts.now) (length amounts.now) }
 {
-    let mut sum = T::zero();
-    for (amount, code) in amounts.iter().zip(codes) {
-        if *code == OPEN {
-            sum = sum.sum(*amount);
-        }
-    }
-    sum
+    amounts
+        .iter()
+        .zip(codes)
+        .filter(|(_, code)| **code == OPEN)
+        .fold(T::zero(), |sum, (amount, _)| sum.sum(*amount))
 }
 
 impl<P: Plan, Q: Quantiser> Job<P, Q> {
@@ -33,13 +31,10 @@ impl<P: Plan, Q: Quantiser> Job<P, Q> {
     fn sum_outputs(&self, codes: &[u8]) -> Q::Tone
         ensures { result ≡ total_of Q.Tone.Tone.algebra (output_at Q.Tone.Tone.algebra (Q.Quantiser.tables self.now.quantiser) codes.now) (length codes.now) }
     {
-        let mut sum = Q::Tone::zero();
-        for code in codes {
-            if *code != OPEN {
-                sum = sum.sum(self.quantiser.output(*code));
-            }
-        }
-        sum
+        codes.iter().filter(|code| **code != OPEN).fold(
+            Q::Tone::zero(),
+            |sum, code| sum.sum(self.quantiser.output(*code)),
+        )
     }
 
     // The errors of the fixed barons, added.
@@ -48,13 +43,13 @@ impl<P: Plan, Q: Quantiser> Job<P, Q> {
         requires amounts { length amounts.now ≡ self.now.size.rows * self.now.size.columns }
         ensures { result ≡ total_of Q.Tone.Tone.algebra (loss_at Q.Tone.Tone.algebra (squares_of P.Plan.meaning self.now) codes.now amounts.now) (self.now.size.rows * self.now.size.columns) }
     {
-        let mut sum = Q::Tone::zero();
-        for square in self.size.in_reading_order() {
-            if self.is_lost(codes[square.place], square) {
-                sum = sum.sum(amounts[square.place]);
-            }
-        }
-        sum
+        self.size
+            .in_reading_order()
+            .filter(|square| self.is_lost(codes[square.place], *square))
+            .fold(
+                Q::Tone::zero(),
+                |sum, square| sum.sum(amounts[square.place]),
+            )
     }
 
     // The totals of the drawing, of the outputs and the losses of fixed squares, and of the amounts of open ones.

@@ -72,7 +72,7 @@ loop-column-preserved g c =
     let a = c.args.row * columns in
     let known = c.if-not-is_inner.known in
     let pattern = c.if-not-is_inner.pattern in
-    let step = c.column_period-period.ensures in
+    let step = c.column_period-column-step.ensures in
     let least = law.column_period.least in
     let few = c.visit-count.ensures.few in
     let held : (known ≤ k) × (known % q ≡ c.args.first) × PatternOf squares (a + known) pattern
@@ -100,3 +100,19 @@ loop-column-preserved g c =
       omega (arith, c.loop-column-test.true, step),
       λ n low high short. more n (omega (arith, low, step)) (omega (arith, high, step)) short,
     )
+
+pub returns-after-not-is_inner-clause-after : goal.returns-after-not-is_inner-clause-after
+returns-after-not-is_inner-clause-after g c =
+    let job = c.args.self.now in
+    let columns = job.size.columns in
+    let plan = g.P.Plan.meaning job.plan in
+    let law = g.met.P.Plan.lawful job.plan in
+    let tone = g.Q.Tone.Tone.algebra in
+    let zeros : ℕ → g.row.Q-Tone.Denot = λ s. tone.zero in
+    let inv = c.loop-column.invariant in
+    let k = c.loop-column.column in
+    let step = c.column_period-column-step.ensures in
+    let more = stride_more tone job.size.rows columns plan law (g.Q.Quantiser.tables job.quantiser) zeros c.args.rank c.args.row (band c.args.codes.now c.args.amounts.now) c.args.first c.requires.lone
+    k c.loop-column.count c.visit-count.result (band c.loop-column.codes c.loop-column.amounts) (band c.visit-count.new.codes c.visit-count.new.amounts)
+    c.loop-column-test.true inv.2 inv.7 c.visit-count.ensures.after in
+    more columns (omega (arith, step)) (omega (arith, step, c.loop-column-test.true)) (omega arith)

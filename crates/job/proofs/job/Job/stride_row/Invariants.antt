@@ -18,6 +18,3 @@ invariant-loop-column g l =
     × (l.count ≤ columns)
     × (l.column < columns + q)
     × ((n : ℕ) → n ≤ l.column → l.column < n + q → n ≤ columns → progress l.count (band l.codes l.amounts) ≡ passed_from j l.rank a n (band l.initial.codes l.initial.amounts))
-
-abbrev pub decreases-loop-column : goal.decreases-loop-column
-decreases-loop-column g l = l.self.size.columns - l.column

@@ -1,30 +1,19 @@
-use Rattle.std.proofs.Common.{◌<◌, length, sym, ◌∙◌, arith}
-use Rattle.tone.proofs.Totals.{total-none}
+use Rattle.std.proofs.Common.{filter, refl, ap, ◌∙◌, rules, tests}
+use Rattle.std.specs.List.{fold}
+use Rattle.std.proofs.lemmas.Iterator.{YieldsList-from_slice}
+use Rattle.std.proofs.lemmas.Iterator.Consumers.{YieldsList-from_filter, fold_from_yields_List}
+use Rattle.bits.specs.Bits.{fixed}
 use Rattle.job.specs.Shown.{output_at}
-use Rattle.job.proofs.Terms.{term_added, term_skipped, terms_all, output_open, output_fixed}
+use Rattle.job.proofs.Folds.{folded}
 use Rattle.job.proofs.job.Job.sum_outputs.Goals as goal
-use Rattle.job.proofs.job.Job.sum_outputs.Goals.{then-code, else-code}
-
-pub loop-code-init : goal.loop-code-init
-loop-code-init g c =
-    let a = g.Q.Tone.Tone.algebra in
-    c.zero-sum.ensures ∙ sym (total-none a (output_at a (g.Q.Quantiser.tables c.args.self.now.quantiser) c.args.codes.now))
-
-pub loop-code-preserved : goal.loop-code-preserved
-loop-code-preserved g c =
-    let a = g.Q.Tone.Tone.algebra in
-    let t = g.Q.Quantiser.tables c.args.self.now.quantiser in
-    let codes = c.args.codes.now in
-    let s = c.loop-code.code-index in
-    let inside : s < length codes = omega arith in
-    elim c.if-code.branch [
-      | then-code w ↦ term_added a (output_at a t codes) s c.loop-code.sum c.loop-code.invariant w.output.result c.if-code.sum
-          (w.output.ensures ∙ output_fixed a codes s inside t w.if-code.true) (w.sum-is ∙ w.sum-sum.ensures)
-      | else-code w ↦ w.sum-is ∙ term_skipped a (output_at a t codes) s c.loop-code.sum c.loop-code.invariant g.met.Q.Tone.Tone.lawful
-          (output_open a codes s inside t w.if-code.false)
-    ]
 
 pub returns : goal.returns
 returns g c =
     let a = g.Q.Tone.Tone.algebra in
-    terms_all a (output_at a (g.Q.Quantiser.tables c.args.self.now.quantiser) c.args.codes.now) c.loop-code.code-index c.loop-code.sum c.loop-code.invariant _ (omega arith)
+    let t = g.Q.Quantiser.tables c.args.self.now.quantiser in
+    let codes = c.args.codes.now in
+    fold_from_yields_List _ (λ s code. a.sum s (t.output code)) _ c.fold.result c.fold.ensures.ran
+    (YieldsList-from_filter _ fixed (YieldsList-from_slice codes cc) c.filter.ensures.closure (λ x b q k. search (rules, tests)))
+    (λ s x b q k. search rules)
+    ∙ ap (λ z. fold (λ s code. a.sum s (t.output code)) z (filter fixed codes)) c.zero.ensures
+    ∙ folded a g.met.Q.Tone.Tone.lawful fixed t.output (output_at a t codes) 255 codes (λ k low. refl)
