@@ -5,7 +5,7 @@ use pile::{Base, Pile, piled};
 use quantiser::Threshold;
 use refusal::Refusal;
 use std::alloc::{AllocError, Global};
-use tone::Grey;
+use tone::{Grey, Tone};
 
 // The threshold where none is told.
 const THRESHOLD: i32 = 128;
@@ -99,7 +99,7 @@ pub fn work_job<'a>(
         places: 0,
     };
     let calls = calls_of(heap, requests, squares, &mut lent)?;
-    let none = Grey { value: 0 };
+    let none = Grey::zero();
     let mut amounts = vec![in heap; none; squares]?;
     let mut codes = vec![in heap; 0u8; squares]?;
     let mut bytes = vec![in heap; 0u8; lent.bytes]?;
