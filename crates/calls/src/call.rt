@@ -19,6 +19,7 @@ pub enum Call<'a> {
 #[derive(Clone, Copy)]
 pub enum Answer<T> {
     Code(u8),
+    // Follow's pair as the job answers it; a Refusal here would have to be made back from the number.
     Followed(usize, u8),
     Count(usize),
     Resumed,

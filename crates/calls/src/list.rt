@@ -31,9 +31,9 @@ fn work_on<P: Plan, Q: Quantiser>(
     requires { length calls.now ≤ length answers.old }
     ensures { ran_of answers.new (band codes.new amounts.new) (pools bytes.new places.new errors.new) ≡ filled (run (step (meant Q.Tone.Tone.algebra P.Plan.meaning Q.Quantiser.tables job.now drawing.now)) (map call_of calls.now) (band codes.old amounts.old) (pools bytes.old places.old errors.old)) answers.old }
 {
+    // By the call's index: behind a zip with iter_mut a proof knows no answer.
     for (i, call) in calls.iter().enumerate() {
-        let answer = perform(job, drawing, amounts, codes, bytes, places, errors, *call);
-        answers[i] = answer;
+        answers[i] = perform(job, drawing, amounts, codes, bytes, places, errors, *call);
     }
 }
 

@@ -15,11 +15,7 @@ impl Window {
         ensures value { result ≡ low_end self.now memory }
         ensures bound { result ≤ memory }
     {
-        if self.start < memory {
-            self.start
-        } else {
-            memory
-        }
+        self.start.min(memory)
     }
 
     // Where it ends there.
@@ -29,10 +25,6 @@ impl Window {
         ensures order { low_end self.now memory ≤ result }
     {
         let low = self.low(memory);
-        if self.length < memory - low {
-            low + self.length
-        } else {
-            memory
-        }
+        low + self.length.min(memory - low)
     }
 }

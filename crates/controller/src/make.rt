@@ -9,7 +9,8 @@ use plan::Knuth;
 use quantiser::Threshold;
 use refusal::Refusal;
 
-// The job of a size, Knuth's plan and a threshold; 1 for a size outside the limits.
+// The job of a size, Knuth's plan and a threshold; 1 for a size outside the limits. The exports match on it, since where there is no job `and_then`
+// ensures nothing of the bands and the output that its closure would borrow, and they promise that those stay; Tally is written as the others are.
 pub(crate) fn make(
     rows: usize,
     columns: usize,

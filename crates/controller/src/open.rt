@@ -19,6 +19,7 @@ pub extern "C" fn sumbelgo_open(
     ensures number { result ≡ open_refusal rows columns (length drawing.now) (length amounts.old) (length codes.old) }
     ensures bands { band codes.new amounts.new ≡ unless result (opened_on drawing.now (band codes.old amounts.old)) (band codes.old amounts.old) }
 {
+    // C reads the number; 0 is none.
     match open_bands(rows, columns, drawing, amounts, codes) {
         Ok(_) => 0,
         Err(refusal) => refusal.number(),

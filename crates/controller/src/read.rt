@@ -14,20 +14,5 @@ pub extern "C" fn sumbelgo_read(input: &[u8], band: &mut [u8]) -> Reading
     ensures answer { result ≡ read_answer input.now (read_fault input.now (length band.old)) }
     ensures band { band.new ≡ filled input.now (tones_read input.now (length band.old)) band.old }
 {
-    match read_pgm(input, band) {
-        Ok(picture) => Reading {
-            rows: picture.size.rows,
-            columns: picture.size.columns,
-            end: picture.end,
-            offset: 0,
-            refusal: 0,
-        },
-        Err(fault) => Reading {
-            rows: 0,
-            columns: 0,
-            end: 0,
-            offset: fault.offset,
-            refusal: fault.refusal.number(),
-        },
-    }
+    Reading::from(read_pgm(input, band))
 }

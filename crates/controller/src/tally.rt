@@ -18,6 +18,7 @@ pub struct Tally {
     pub outputs: Grey,
     pub losses: Grey,
     pub amounts: Grey,
+    // C's layout: the number is 0 where nothing was refused.
     pub refusal: u8,
 }
 

@@ -18,13 +18,9 @@ fn convert(rt: &HostRuntime) -> anyhow::Result<()> {
     let mut input = Vec::new(rt.alloc());
     let _ = rt.stdin().take(MOST_READ).read_to_end(&mut input)?;
     let mut out = [0u8; MOST_WRITTEN];
-    match draft(input.as_slice(), &mut out) {
-        Ok(length) => {
-            rt.stdout().write_all(&out[0..length])?;
-            Ok(())
-        }
-        Err(_) => Err(anyhow!("no draft")),
-    }
+    let length = draft(input.as_slice(), &mut out).map_err(|_| anyhow!("no draft"))?;
+    rt.stdout().write_all(&out[..length])?;
+    Ok(())
 }
 
 // An error is not said, since standard error stays empty too.

@@ -9,7 +9,7 @@ use crate::tones::put_greys;
 use grid::Size;
 use netpbm::{pack, read_pgm};
 use refusal::Refusal;
-use tone::Grey;
+use tone::{Grey, Tone};
 
 // The longest input, in bytes.
 const MOST_BYTES: usize = 65_536;
@@ -24,8 +24,9 @@ fn write_draft(size: &Size, tones: &[u8], out: &mut [u8]) -> Result<usize, Refus
     ensures { Packs size.now.rows size.now.columns (finished size.now.rows size.now.columns (map grey tones.now)) out.old result out.new }
 {
     let squares = size.squares();
-    let mut greys = [Grey { value: 0 }; MOST_SQUARES];
-    let mut left = [Grey { value: 0 }; MOST_SQUARES];
+    // Arrays for the largest drawing, cut to its squares: the library has no heap.
+    let mut greys = [Grey::zero(); MOST_SQUARES];
+    let mut left = [Grey::zero(); MOST_SQUARES];
     let mut marks = [0u8; MOST_SQUARES];
     let drawing = &mut greys[0..squares];
     let amounts = &mut left[0..squares];

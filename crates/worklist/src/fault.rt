@@ -13,12 +13,9 @@ pub enum Fault {
     // Too few or too many words, and how the line is written.
     #[error("this line is to be written: {0}")]
     Form(&'static str),
-    // A word that is no number from 0 up.
-    #[error("'{0}' is no whole number from 0 to 18446744073709551615")]
-    NoNumber(String),
-    // A word that is no tone.
-    #[error("'{0}' is no whole number from -2147483648 to 2147483647")]
-    NoTone(String),
+    // A word that is no whole number of the range that is wanted.
+    #[error("'{word}' is no whole number from {range}")]
+    NoNumber { word: String, range: &'static str },
     // A word that is no row of bytes.
     #[error("'{0}' is no row of bytes of two hexadecimal digits each")]
     NoBytes(String),

@@ -2,7 +2,7 @@
 use pile::Pile;
 use tone::Grey;
 
-// A call as its line tells it.
+// A call as its line tells it. It owns its places and bytes, and has no windows yet.
 #[derive(Drop)]
 pub enum Request {
     Fix(usize, usize),

@@ -17,10 +17,12 @@ use reading::{nothing_told, read_line};
 use std::alloc::Global;
 use std::io::{BufRead, BufReader, Stdin};
 use std::process::ExitCode;
+use thiserror::Error;
 use working::work_job;
 
 // What is wrong, and in which line.
-#[derive(Drop)]
+#[derive(Debug, Drop, Error)]
+#[error("line {line}: {fault}")]
 struct Misread {
     line: usize,
     fault: Fault,
@@ -30,15 +32,11 @@ struct Misread {
 fn read_all(heap: Global, input: BufReader<Stdin>) -> Result<Worklist, Misread> {
     let mut list = nothing_told(heap);
     for (line, text) in (1usize..).zip(input.lines(heap)) {
-        let Ok(text) = text else {
-            return Err(Misread {
-                line,
-                fault: Fault::NotText,
-            });
-        };
-        if let Err(fault) = read_line(heap, &mut list, text.as_str()) {
-            return Err(Misread { line, fault });
-        }
+        let text = text.map_err(|_| Misread {
+            line,
+            fault: Fault::NotText,
+        })?;
+        read_line(heap, &mut list, text.as_str()).map_err(|fault| Misread { line, fault })?;
     }
     Ok(list)
 }
@@ -62,9 +60,7 @@ fn main(rt: HostRuntime) -> anyhow::Result<ExitCode> {
             Ok(ExitCode::SUCCESS)
         }
         Err(misread) => {
-            let line = misread.line;
-            let fault = misread.fault;
-            eprintln!(rt; "worklist: line {line}: {fault}")?;
+            eprintln!(rt; "worklist: {misread}")?;
             Ok(ExitCode::FAILURE)
         }
     }

@@ -1,22 +1,30 @@
 // Numbers and bytes in words.
 use crate::fault::Fault;
 use std::alloc::Global;
+use std::str::FromStr;
 
-// A whole number from 0 up. (It differs from `signed` in a type and in the fault. One function that is passed what makes the fault gets no proof
-// today: a fault holds a `'static` text, and a value with one that a parameter makes is not covered.)
-pub fn number(heap: Global, word: &str) -> Result<usize, Fault> {
-    match word.parse::<usize>() {
+// A whole number of a type, whose range the fault tells.
+fn parsed<N: FromStr>(heap: Global, word: &str, range: &'static str) -> Result<N, Fault>
+where
+    N::Err: Drop,
+{
+    match word.parse::<N>() {
         Ok(n) => Ok(n),
-        Err(_) => Err(Fault::NoNumber(String::from_str(heap, word)?)),
+        Err(_) => Err(Fault::NoNumber {
+            word: String::from_str(heap, word)?,
+            range,
+        }),
     }
+}
+
+// A whole number from 0 up.
+pub fn number(heap: Global, word: &str) -> Result<usize, Fault> {
+    parsed(heap, word, "0 to 18446744073709551615")
 }
 
 // A whole number of 32 bits with a sign.
 pub fn signed(heap: Global, word: &str) -> Result<i32, Fault> {
-    match word.parse::<i32>() {
-        Ok(n) => Ok(n),
-        Err(_) => Err(Fault::NoTone(String::from_str(heap, word)?)),
-    }
+    parsed(heap, word, "-2147483648 to 2147483647")
 }
 
 // The two numbers that are all the words.

@@ -42,8 +42,9 @@ fn in_time(list: &Worklist, name: &'static str) -> Result<(), Fault> {
     }
 }
 
-// What is told once is not told again.
-fn not_twice(told: bool, name: &'static str) -> Result<(), Fault> {
+// What is told once is told in time, and not again.
+fn once(list: &Worklist, told: bool, name: &'static str) -> Result<(), Fault> {
+    in_time(list, name)?;
     if told {
         Err(Fault::Twice(name))
     } else {
@@ -53,16 +54,14 @@ fn not_twice(told: bool, name: &'static str) -> Result<(), Fault> {
 
 // `plan WORDS..`
 fn read_plan(heap: Global, list: &mut Worklist, words: &[String]) -> Result<(), Fault> {
-    in_time(list, "plan")?;
-    not_twice(list.plan.is_some(), "plan")?;
+    once(list, list.plan.is_some(), "plan")?;
     list.plan = Some(parse_pile(heap, words)?);
     Ok(())
 }
 
 // `threshold NUMBER`
 fn read_threshold(heap: Global, list: &mut Worklist, words: &[String]) -> Result<(), Fault> {
-    in_time(list, "threshold")?;
-    not_twice(list.threshold.is_some(), "threshold")?;
+    once(list, list.threshold.is_some(), "threshold")?;
     let [word] = words else {
         return Err(Fault::Form("threshold NUMBER"));
     };
@@ -72,8 +71,7 @@ fn read_threshold(heap: Global, list: &mut Worklist, words: &[String]) -> Result
 
 // `size ROWS COLUMNS`
 fn read_size(heap: Global, list: &mut Worklist, words: &[String]) -> Result<(), Fault> {
-    in_time(list, "size")?;
-    not_twice(list.size.is_some(), "size")?;
+    once(list, list.size.is_some(), "size")?;
     list.size = Some(two_numbers(heap, words, "size ROWS COLUMNS")?);
     Ok(())
 }

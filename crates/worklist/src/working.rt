@@ -5,7 +5,7 @@ use pile::{Base, Pile, piled};
 use quantiser::Threshold;
 use refusal::Refusal;
 use std::alloc::{AllocError, Global};
-use tone::Grey;
+use tone::{Grey, Tone};
 
 // The threshold where none is told.
 const THRESHOLD: i32 = 128;
@@ -43,22 +43,16 @@ fn threshold_of(list: &Worklist) -> Threshold {
     }
 }
 
-// Memory for one more record: four bytes of size, a bit and a code for each square.
-fn lend_bytes(lent: &mut Lent, squares: usize) -> Window {
-    let start = lent.bytes;
-    let length = squares.saturating_add(squares / 8).saturating_add(5);
-    lent.bytes = start.saturating_add(length);
+// Memory for one more list of this length, behind what has been lent.
+fn lend(lent: &mut usize, length: usize) -> Window {
+    let start = *lent;
+    *lent = start.saturating_add(length);
     Window { start, length }
 }
 
-// Memory for one more list of losses: as many as there are squares.
-fn lend_places(lent: &mut Lent, squares: usize) -> Window {
-    let start = lent.places;
-    lent.places = start.saturating_add(squares);
-    Window {
-        start,
-        length: squares,
-    }
+// The most bytes of a record: four of size, a bit and a code for each square.
+fn most_bytes(squares: usize) -> usize {
+    squares.saturating_add(squares / 8).saturating_add(5)
 }
 
 // The call of a request, with memory of its own to write into.
@@ -67,11 +61,11 @@ fn call_of<'a>(request: &'a Request, squares: usize, lent: &mut Lent) -> Call<'a
         Request::Fix(row, column) => Call::Fix(*row, *column),
         Request::Follow(places) => Call::Follow(places.as_slice()),
         Request::Finish => Call::Finish,
-        Request::Halt => Call::Halt(lend_bytes(lent, squares)),
+        Request::Halt => Call::Halt(lend(&mut lent.bytes, most_bytes(squares))),
         Request::Resume(record) => Call::Resume(record.as_slice()),
         Request::Tally => Call::Tally,
         Request::Losses => {
-            let window = lend_places(lent, squares);
+            let window = lend(&mut lent.places, squares);
             Call::Losses(window, window)
         }
     }
@@ -105,7 +99,7 @@ pub fn work_job<'a>(
         places: 0,
     };
     let calls = calls_of(heap, requests, squares, &mut lent)?;
-    let none = Grey { value: 0 };
+    let none = Grey::zero();
     let mut amounts = vec![in heap; none; squares]?;
     let mut codes = vec![in heap; 0u8; squares]?;
     let mut bytes = vec![in heap; 0u8; lent.bytes]?;
