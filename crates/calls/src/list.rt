@@ -16,7 +16,8 @@ use plan::Plan;
 use quantiser::Quantiser;
 use refusal::Refusal;
 
-// Works the calls in turn on a job, refused ones included.
+// Works the calls in turn on a job, refused ones included. The lent memory stays three slices, as the bands stay two: a struct of them would put a clause
+// more for each into the contracts, that it still holds the same.
 fn work_on<P: Plan, Q: Quantiser>(
     job: &Job<P, Q>,
     drawing: &[Q::Tone],

@@ -4,7 +4,8 @@ ghost use Rattle.grid.specs.Squares.{Inside};
 
 use crate::size::Size;
 
-// Its row and column, and its place in reading order: the squares are counted row by row.
+// Its row and column, and its place in reading order: the squares are counted row by row. It keeps no size, so that it stays three numbers; where it
+// has to lie inside a drawing, a contract says so.
 #[derive(Clone, Copy, PartialEq, Eq, Debug)]
 pub struct Square {
     pub row: usize,

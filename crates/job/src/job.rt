@@ -1,4 +1,5 @@
-// A job: what it keeps from call to call. The bands are lent anew to each call.
+// A job: what it keeps from call to call. The bands are lent anew to each call, as two slices: a struct of both would put two clauses more into each
+// contract, that it still holds the same two.
 use grid::Size;
 
 mod baron;

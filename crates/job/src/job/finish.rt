@@ -17,8 +17,8 @@ use refusal::Refusal;
 use std::array;
 
 impl<P: Plan, Q: Quantiser> Job<P, Q> {
-    // Fixes the square at a place, whose pattern is told, if it is open, and answers how many were fixed: 1 or 0. The squares of lower rank are
-    // fixed, so that none has to be asked.
+    // Fixes the square at a place, whose pattern is told, if it is open, and answers how many were fixed: 1 or 0. This is `take` with what a sweep
+    // knows: the squares of lower rank are fixed, so that it does what the definition's visit does, which asks them.
     fn visit(
         &self,
         amounts: &mut [Q::Tone],
