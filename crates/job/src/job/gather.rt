@@ -32,13 +32,11 @@ fn last_of(kinds: &[Kind; 8]) -> Option<Direction>
     requires { length kinds.now ≡ 8 }
     ensures { last_number result ≡ kinds_last kinds.now 8 }
 {
-    let mut last = None;
-    for direction in Direction::ALL {
-        if kind_in(kinds, direction) == Kind::Higher {
-            last = Some(direction);
-        }
-    }
-    last
+    Direction::ALL
+        .iter()
+        .rev()
+        .find(|direction| kind_in(kinds, **direction) == Kind::Higher)
+        .copied()
 }
 
 impl<P: Plan, Q: Quantiser> Job<P, Q> {
