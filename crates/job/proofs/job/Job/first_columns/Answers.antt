@@ -1,4 +1,4 @@
-use Rattle.std.proofs.Common.{ℕ, ◌<◌, None, arith, rules}
+use Rattle.std.proofs.Common.{◌<◌, None, arith, rules}
 use Rattle.plan.proofs.Made.{each_made}
 use Rattle.job.specs.Periods.{First}
 use Rattle.job.proofs.job.Job.first_columns.Goals as goal
