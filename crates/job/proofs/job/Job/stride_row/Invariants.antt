@@ -1,4 +1,4 @@
-use Rattle.std.proofs.Common.{◌≡◌, ℕ, ◌+◌, ◌-◌, ◌*◌, ◌%◌, ◌<◌, ◌≤◌}
+use Rattle.std.proofs.Common.{◌≡◌, ℕ, ◌+◌, ◌*◌, ◌%◌, ◌<◌, ◌≤◌}
 use Rattle.job.specs.Meaning.{setting_by, band}
 use Rattle.job.specs.Patterns.{PatternOf}
 use Rattle.job.specs.Progress.{progress, passed_from}

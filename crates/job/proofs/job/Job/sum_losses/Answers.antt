@@ -1,4 +1,4 @@
-use Rattle.std.proofs.Common.{◌≡◌, ℕ, ◌*◌, ◌<◌, List, length, get_or, cond, filter, sym, refl, ap, ◌∙◌, subst, zero-add, arith, rules, tests}
+use Rattle.std.proofs.Common.{◌≡◌, ◌*◌, ◌<◌, length, get_or, cond, filter, sym, refl, ap, ◌∙◌, subst, zero-add, arith, rules, tests}
 use Rattle.std.specs.List.{fold, range_with_len}
 use Rattle.std.proofs.lemmas.Iterator.Consumers.{YieldsList-at, YieldsList-from_filter}
 use Rattle.std.proofs.lemmas.List.{get_or_read}
