@@ -11,6 +11,7 @@ pub mod Kept
 pub mod KindLists
 pub mod Listed
 pub mod Lower
+mod Mapped
 pub mod Outputs
 pub mod Parting
 pub mod Parts

@@ -10,7 +10,6 @@ use Rattle.grid.specs.Squares.{Inside, Comes}
 use Rattle.grid.specs.declared.size.Size.{Size}
 use Rattle.grid.specs.declared.square.Square.{Square}
 use Rattle.job.proofs.Reading.{place-below, inside-same}
-use Rattle.job.proofs.Reading.{place-below, inside-same}
 
 module _ {S : Type 0} (size : S → Size) (place : S → ℕ) where
   -- how squares come: as `next_gives` of the reading order says

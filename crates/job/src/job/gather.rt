@@ -67,16 +67,7 @@ impl<P: Plan, Q: Quantiser> Job<P, Q> {
         ensures { PatternOf (squares_of P.Plan.meaning self.now) square.place result }
     {
         let own = self.plan.rank(square.row, square.column);
-        let kinds = [
-            self.kind(square, own, Direction::N),
-            self.kind(square, own, Direction::Ne),
-            self.kind(square, own, Direction::E),
-            self.kind(square, own, Direction::Se),
-            self.kind(square, own, Direction::S),
-            self.kind(square, own, Direction::Sw),
-            self.kind(square, own, Direction::W),
-            self.kind(square, own, Direction::Nw),
-        ];
+        let kinds = Direction::ALL.map(|direction| self.kind(square, own, direction));
         let weights = weights_of(&kinds);
         let last = last_of(&kinds);
         Pattern {

@@ -1,12 +1,14 @@
-use Rattle.std.proofs.Common.{◌≡◌, ℕ, ◌*◌, ◌<◌, List, [], ◌∷◌, get_or, sym, ap, ◌∙◌, mul_comm, arith}
+use Rattle.std.proofs.Common.{◌≡◌, ℕ, ◌*◌, ◌<◌, get_or, subst, rules, sym, ap, ◌∙◌, mul_comm, arith}
 use Rattle.std.proofs.lemmas.Nat.{mul-add-lt}
-use Rattle.grid.specs.Directions.{down, across}
+use Rattle.grid.specs.Directions.{number_of, down, across}
 use Rattle.grid.specs.Lines.{plain, step}
-use Rattle.diffusion.proofs.Lines.{by_eight}
 use Rattle.job.specs.Meaning.{squares_of}
 use Rattle.job.specs.Patterns.{kind_of, kind_at}
 use Rattle.job.specs.declared.kind.Kind.{Kind}
 use Rattle.job.specs.declared.kind.Kind.TheVariants.{Neither}
+use Rattle.grid.specs.declared.direction.Direction.TheVariants.{N}
+use Rattle.job.proofs.Eight.{directions, numbered}
+use Rattle.job.proofs.Mapped.{each_mapped}
 use Rattle.job.proofs.Around.{kind_here, weights-told, last-told}
 use Rattle.job.proofs.job.Job.pattern.Goals as goal
 
@@ -23,14 +25,17 @@ returns g c =
     let s = c.args.square.place in
     let at = c.requires.place in
     let inside : s < rows * columns = omega (arith, at, mul-add-lt row columns column rows c.requires.row c.requires.column, mul_comm rows columns) in
-    let ks : List Kind = c.kind.result ∷ c.kind-2.result ∷ c.kind-3.result ∷ c.kind-4.result ∷ c.kind-5.result ∷ c.kind-6.result ∷ c.kind-7.result ∷ c.kind-8.result ∷ [] in
+    let ks = c.map-kinds.result in
     let one : (d : ℕ) (k : Kind) → k ≡ kind_at plan c.rank-own.result (step (plain rows) (down d) row) (step (plain columns) (across d) column) → k ≡ kind_of squares s d
     = λ d k e. e ∙ ap (λ own. kind_at plan own (step (plain rows) (down d) row) (step (plain columns) (across d) column)) c.rank-own.ensures
     ∙ sym (kind_here rows columns plan law row column d c.requires.row c.requires.column) ∙ ap (λ t. kind_of squares t d) (sym at) in
     let kinds : (d : ℕ) → d < 8 → get_or ks d Neither ≡ kind_of squares s d
-    = by_eight (λ d. get_or ks d Neither ≡ kind_of squares s d)
-    (one 0 _ c.kind.ensures) (one 1 _ c.kind-2.ensures) (one 2 _ c.kind-3.ensures) (one 3 _ c.kind-4.ensures)
-    (one 4 _ c.kind-5.ensures) (one 5 _ c.kind-6.ensures) (one 6 _ c.kind-7.ensures) (one 7 _ c.kind-8.ensures) in
+    = λ d low.
+    one d _ (
+    subst (λ n. get_or ks d Neither ≡ kind_at plan c.rank-own.result (step (plain rows) (down n) row) (step (plain columns) (across n) column)) (numbered d low)
+    (each_mapped _ (λ direction k. k ≡ kind_at plan c.rank-own.result (step (plain rows) (down (number_of direction)) row) (step (plain columns) (across (number_of direction)) column))
+    _ (λ x y q k. search rules) directions ks 0 8 c.map-kinds.ensures.items.each d N Neither (omega arith) low)
+    ) in
     record {
       inside = inside;
       kinds = kinds;
