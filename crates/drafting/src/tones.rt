@@ -9,6 +9,7 @@ pub(crate) fn put_greys(bytes: &[u8], drawing: &mut [Grey])
     requires { length drawing.old ≡ length bytes.now }
     ensures { drawing.new ≡ map grey bytes.now }
 {
+    // By index for the bytes: behind a zip with `iter_mut` a proof knows no tone.
     for (i, grey) in drawing.iter_mut().enumerate() {
         *grey = Grey::from(bytes[i]);
     }

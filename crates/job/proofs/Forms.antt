@@ -1,11 +1,11 @@
 -- The form of a record, place by place.
-use Rattle.std.proofs.Common.{◌≡◌, ℕ, zero, suc, ◌+◌, ◌*◌, ◌<◌, ◌≤◌, Bool, true, false, cond, not, ◌&&◌, ◌||◌, ltb, List, length, filter, sym, refl, ap, ◌∙◌, zero-add, add-zero, inl, inr, arith}
+use Rattle.std.proofs.Common.{◌≡◌, ℕ, zero, suc, ◌+◌, ◌*◌, ◌<◌, ◌≤◌, Bool, true, false, cond, not, ◌&&◌, ◌||◌, ltb, List, length, filter, sym, refl, ap, ◌∙◌, zero-add, add-zero, arith}
 use Rattle.std.specs.List.{range_with_len, list_all}
 use Rattle.std.proofs.Math.Bool.{and_comm, and_assoc, and-true}
-use Rattle.std.proofs.lemmas.Bool.{cases_eq, and_from, and_right, lt-ltb, le-ltb, or_left}
+use Rattle.std.proofs.lemmas.Bool.{and_from, lt-ltb, le-ltb, or_left}
 use Rattle.bits.specs.Bits.{bytes_for}
 use Rattle.model.specs.Records.{stands, stand_below, all_below, spare_clear}
-use Rattle.model.proofs.OneMore.{stand_below-none, stand_below_more, all_below_more}
+use Rattle.model.proofs.OneMore.{stand_below-none, stand_below_more, all_below-none, all_below_more}
 
 -- one place more that stands, or that does not
 module _ (rec : List ℕ) (n count : ℕ) (so_far : count ≡ stand_below rec n) where
@@ -37,18 +37,22 @@ unfolding all_below
 all_below_each p zero h = refl
 all_below_each p (suc n) h = and_from (p n) _ (h n (omega arith)) (all_below_each p n (λ k l. h k (omega arith)))
 
--- one number more of which it holds
-pub all_below_again : (p : ℕ → Bool) (n : ℕ) → p n ≡ true → all_below p n ≡ true → all_below p (n + 1) ≡ true
-all_below_again p n here before = all_below_more p n ∙ and_from (p n) _ here before
+-- the m numbers from a on, where the test of all and that of the list agree from a on
+pub below_from : (p q : ℕ → Bool) (a m : ℕ) → ((k : ℕ) → a ≤ k → p k ≡ q k) → all_below p (a + m) ≡ (all_below p a && list_all q (range_with_len a m))
+below_from p q a zero same = rw (add-zero, and-true)
+below_from p q a (suc m) same =
+    let before = all_below p a in
+    let rest = list_all q (range_with_len (a + 1) m) in
+    let next : a + suc m ≡ a + 1 + m = omega arith in
+    ap (all_below p) next
+    ∙ below_from p q (a + 1) m (λ k h. same k (omega arith))
+    ∙ ap (λ b. b && rest) (all_below_more p a ∙ ap (λ b. b && before) (same a (omega arith)) ∙ and_comm (q a) before)
+    ∙ and_assoc before (q a) rest
 
--- what fails below k fails below each greater number
-pub all_below_stays : (p : ℕ → Bool) (k n : ℕ) → k ≤ n → all_below p k ≡ false → all_below p n ≡ false
-unfolding all_below
-all_below_stays p k zero l e = let z : k ≡ 0 = omega arith in ap (all_below p) (sym z) ∙ e
-all_below_stays p k (suc n) l e = elim (cases_eq k (suc n)) [
-  | inl q ↦ ap (all_below p) (sym q) ∙ e
-  | inr ne ↦ and_right (p n) _ (all_below_stays p k n (omega arith) e)
-]
+-- of the first n numbers all
+pub all_first : (p : ℕ → Bool) (n : ℕ) → list_all p (range_with_len 0 n) ≡ all_below p n
+all_first p n =
+    sym (ap (all_below p) (sym (zero-add n)) ∙ below_from p p 0 n (λ k h. refl) ∙ ap (λ b. b && list_all p (range_with_len 0 n)) (all_below-none p))
 
 -- a spare bit is one behind the last of n squares
 module _ (rec : List ℕ) (n : ℕ) where
@@ -62,19 +66,6 @@ module _ (rec : List ℕ) (n : ℕ) where
   abbrev pub clear : ℕ → Bool
   clear k = not (stands rec k)
 
-  -- the m bits from a on
-  clear_from : (a m : ℕ) → n ≤ a → all_below spare (a + m) ≡ (all_below spare a && list_all clear (range_with_len a m))
-  clear_from a zero h = rw (add-zero, and-true)
-  clear_from a (suc m) h =
-      let before = all_below spare a in
-      let rest = list_all clear (range_with_len (a + 1) m) in
-      let here : spare a ≡ clear a = ap (λ b. b || clear a) (le-ltb a n h) in
-      let next : a + suc m ≡ a + 1 + m = omega arith in
-      ap (all_below spare) next
-      ∙ clear_from (a + 1) m (omega arith)
-      ∙ ap (λ b. b && rest) (all_below_more spare a ∙ ap (λ b. b && before) here ∙ and_comm (clear a) before)
-      ∙ and_assoc before (clear a) rest
-
   pub clear_all : (m : ℕ) → n + m ≡ 8 * bytes_for n → list_all clear (range_with_len n m) ≡ spare_clear n rec
   clear_all m e =
-      sym (ap (all_below spare) (sym e) ∙ clear_from n m (omega arith) ∙ ap (λ b. b && list_all clear (range_with_len n m)) (spare_none))
+      sym (ap (all_below spare) (sym e) ∙ below_from spare clear n m (λ k h. ap (λ b. b || clear k) (le-ltb k n h)) ∙ ap (λ b. b && list_all clear (range_with_len n m)) (spare_none))

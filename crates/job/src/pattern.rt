@@ -6,7 +6,8 @@ ghost use Rattle.job.specs.declared.kind.Kind.TheVariants.{Neither};
 use crate::kind::Kind;
 use grid::Direction;
 
-// What lies in a direction, of eight kinds by direction.
+// What lies in a direction, of eight kinds by direction. They are a bare array: its length is asked here and in the two functions that sum up a pattern,
+// all private, where a struct around it would have to be named at each.
 pub fn kind_in(kinds: &[Kind; 8], direction: Direction) -> Kind
     requires { length kinds.now ≡ 8 }
     ensures { result ≡ slice_index_or kinds.now (number_of direction) Neither }

@@ -12,6 +12,7 @@ use crate::pattern::{Pattern, kind_in};
 use grid::{Direction, Square};
 use plan::Plan;
 use quantiser::Quantiser;
+use std::cmp::Ordering;
 
 // The weights of the higher neighbours, added.
 fn weights_of(kinds: &[Kind; 8]) -> u8
@@ -51,13 +52,10 @@ impl<P: Plan, Q: Quantiser> Job<P, Q> {
         let Some(c) = self.size.column_beside(square.column, direction) else {
             return Kind::Neither;
         };
-        let rank = self.plan.rank(r, c);
-        if rank < own {
-            Kind::Lower
-        } else if own < rank {
-            Kind::Higher
-        } else {
-            Kind::Neither
+        match self.plan.rank(r, c).cmp(&own) {
+            Ordering::Less => Kind::Lower,
+            Ordering::Equal => Kind::Neither,
+            Ordering::Greater => Kind::Higher,
         }
     }
 
