@@ -1,7 +1,9 @@
 -- Kinds taken direction by direction: the start and the step of what is added up over them.
-use Rattle.std.proofs.Common.{◌≡◌, ℕ, ◌+◌, ◌-◌, ◌≤◌, ◌<◌, List, reverse, get_or, MatchOption, Option, None, Some, Bor, sym, refl, ap, ◌∙◌, add-zero, add-one, arith}
+use Rattle.std.proofs.Common.{◌≡◌, ℕ, zero, suc, ◌+◌, ◌-◌, ◌*◌, ◌≤◌, ◌<◌, Bool, true, false, cond, List, [], ◌∷◌, length, reverse, get_or, filter, MatchOption, Option, None, Some, Bor, sym, refl, ap, ◌∙◌, subst, add-zero, zero-add, add-one, arith}
+use Rattle.std.specs.Bool.{⊤}
+use Rattle.std.proofs.lemmas.List.Sums.{sum_by-cons}
 use Rattle.std.proofs.lemmas.Bool.Decides.{nat_tests}
-use Rattle.std.specs.List.{AllWithin, HoldsAt}
+use Rattle.std.specs.List.{sum_by, AllWithin, HoldsAt}
 use Rattle.std.specs.Option.{option_map}
 use Rattle.grid.specs.Directions.{weight, number_of}
 use Rattle.grid.specs.declared.direction.Direction.{Direction}
@@ -28,17 +30,6 @@ pub last_more : (ks : List Kind) (n : ℕ) → kinds_last ks (n + 1) ≡ kind_la
 unfolding kinds_last
 last_more ks n = rw add-one
 
-pub weight-higher : (ks : List Kind) (n : ℕ) → get_or ks n Neither ≡ Higher → kinds_weight ks (n + 1) ≡ kinds_weight ks n + weight n
-weight-higher ks n e = weight_more ks n ∙ ap (λ k. kinds_weight ks n + kind_weight k n) e
-
-pub weight_other : (ks : List Kind) (n : ℕ) → (get_or ks n Neither ≡ Higher → ⊥) → kinds_weight ks (n + 1) ≡ kinds_weight ks n
-weight_other ks n other = weight_more ks n ∙ ap (λ w. kinds_weight ks n + w) (none (get_or ks n Neither) other) ∙ add-zero (kinds_weight ks n)
-  where
-    none : (k : Kind) → (k ≡ Higher → ⊥) → kind_weight k n ≡ 0
-    none Neither h = refl
-    none Lower h = refl
-    none Higher h = absurd (h refl)
-
 pub last-higher : (ks : List Kind) (n : ℕ) → get_or ks n Neither ≡ Higher → kinds_last ks (n + 1) ≡ n
 last-higher ks n e = last_more ks n ∙ ap (λ k. kind_last k n (kinds_last ks n)) e
 
@@ -50,8 +41,58 @@ last_other ks n other = last_more ks n ∙ none (get_or ks n Neither) other
     none Lower h = refl
     none Higher h = absurd (h refl)
 
-pub weight_small : (n : ℕ) → weight n ≤ 2
-weight_small n = grind (arith, nat_tests)
+weight_small : (k : Kind) (n : ℕ) → kind_weight k n ≤ 2
+weight_small Neither n = omega arith
+weight_small Lower n = omega arith
+weight_small Higher n = grind (arith, nat_tests)
+
+abbrev is_higher : Kind → Bool
+is_higher Neither = false
+is_higher Lower = false
+is_higher Higher = true
+
+abbrev pub weight_of : Direction → ℕ
+weight_of direction = weight (number_of direction)
+
+-- the directions come one after another in their order, from the one numbered n
+abbrev InOrder : ℕ → List Direction → Type 0
+InOrder n [] = ⊤
+InOrder n (x ∷ xs) = (number_of x ≡ n) × InOrder (suc n) xs
+
+-- the weights are a sum over the directions with a higher neighbour, and it fits a byte
+module _ (ks : List Kind) where
+  abbrev pub to_higher : Direction → Bool
+  to_higher direction = is_higher (get_or ks (number_of direction) Neither)
+
+  first_weighed : (x : Direction) (xs : List Direction)
+      → sum_by weight_of (filter to_higher (x ∷ xs)) ≡ kind_weight (get_or ks (number_of x) Neither) (number_of x) + sum_by weight_of (filter to_higher xs)
+  first_weighed x xs = taken (get_or ks (number_of x) Neither)
+    where
+      taken : (k : Kind) → sum_by weight_of (cond (is_higher k) (x ∷ filter to_higher xs) (filter to_higher xs)) ≡ kind_weight k (number_of x) + sum_by weight_of (filter to_higher xs)
+      taken Neither = sym (zero-add _)
+      taken Lower = sym (zero-add _)
+      taken Higher = sum_by-cons weight_of x (filter to_higher xs)
+
+  -- from the direction numbered n on
+  weighed_from : (n : ℕ) (xs : List Direction) → InOrder n xs → kinds_weight ks n + sum_by weight_of (filter to_higher xs) ≡ kinds_weight ks (n + length xs)
+  weighed_from n [] order = add-zero (kinds_weight ks n) ∙ ap (kinds_weight ks) (sym (add-zero n))
+  weighed_from n (x ∷ xs) order =
+      let first = first_weighed x xs ∙ ap (λ d. kind_weight (get_or ks d Neither) d + sum_by weight_of (filter to_higher xs)) order.0 in
+      let rest = weighed_from (n + 1) xs (subst (λ m. InOrder m xs) (sym (add-one n)) order.1) in
+      let far : n + 1 + length xs ≡ n + suc (length xs) = omega arith in
+      omega (arith, first, weight_more ks n, rest) ∙ ap (kinds_weight ks) far
+
+  pub weighed : sum_by weight_of (filter to_higher directions) ≡ kinds_weight ks 8
+  weighed = omega (arith, weight-none ks, weighed_from 0 directions (refl, (refl, (refl, (refl, (refl, (refl, (refl, (refl, tt)))))))))
+
+  weights_small : (n : ℕ) → kinds_weight ks n ≤ 2 * n
+  weights_small zero = omega (arith, weight-none ks)
+  weights_small (suc n) =
+      let next = ap (kinds_weight ks) (add-one n) in
+      omega (arith, next, weight_more ks n, weights_small n, weight_small (get_or ks n Neither) n)
+
+  pub weighed_small : sum_by weight_of (filter to_higher directions) < 256
+  weighed_small = omega (arith, weighed, weights_small 8)
 
 -- the last is the first that is found from the back
 module _ (ks : List Kind) where

@@ -19,13 +19,11 @@ fn weights_of(kinds: &[Kind; 8]) -> u8
     requires { length kinds.now ≡ 8 }
     ensures { result ≡ kinds_weight kinds.now 8 }
 {
-    let mut weights = 0;
-    for direction in Direction::ALL {
-        if kind_in(kinds, direction) == Kind::Higher {
-            weights += direction.weight();
-        }
-    }
-    weights
+    Direction::ALL
+        .iter()
+        .filter(|direction| kind_in(kinds, **direction) == Kind::Higher)
+        .map(|direction| direction.weight())
+        .sum()
 }
 
 // The last direction of a higher neighbour, if there is one.

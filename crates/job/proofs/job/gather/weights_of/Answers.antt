@@ -1,23 +1,20 @@
-use Rattle.std.proofs.Common.{◌≡◌, get_or, sym, ap, ◌∙◌, arith, rules}
-use Rattle.grid.specs.Directions.{number_of, weight}
-use Rattle.job.specs.declared.kind.Kind.TheVariants.{Neither, Higher}
-use Rattle.job.proofs.Eight.{nth, numbered}
-use Rattle.job.proofs.KindLists.{weight-none, weight-higher, weight_other, weight_small}
+use Rattle.std.proofs.Common.{filter, ◌∙◌, rules, tests}
+use Rattle.std.proofs.lemmas.Iterator.{YieldsList-from_slice, YieldsList-from_map}
+use Rattle.std.proofs.lemmas.Iterator.Consumers.{YieldsList-at, YieldsList-from_filter, sum_by_from_yields_List, fits_by_from_yields_list}
+use Rattle.job.proofs.Eight.{directions}
+use Rattle.job.proofs.KindLists.{to_higher, weight_of, weighed, weighed_small}
 use Rattle.job.proofs.job.gather.weights_of.Goals as goal
-use Rattle.job.proofs.job.gather.weights_of.Goals.{then-eq, else-eq}
 
-pub loop-direction-init : goal.loop-direction-init
-loop-direction-init c = (omega arith, sym (weight-none c.args.kinds.now))
-
-pub loop-direction-preserved : goal.loop-direction-preserved
-loop-direction-preserved c =
+pub sum-requires-clause-fits : goal.sum-requires-clause-fits
+sum-requires-clause-fits c =
     let ks = c.args.kinds.now in
-    let d = c.loop-direction.direction-index in
-    let is : number_of (nth d) ≡ d = numbered d c.loop-direction-test.true in
-    let read : c.kind_in.result ≡ get_or ks d Neither = c.kind_in.ensures ∙ ap (λ n. get_or ks n Neither) is in
-    elim c.if-eq.branch [
-      | then-eq w ↦
-          let weighs : w.weight-weights.result ≡ weight d = w.weight-weights.ensures ∙ ap weight is in
-          (omega (arith, w.weights-is, weighs, weight_small d), omega (arith, w.weights-is, weighs, weight-higher ks d (sym read ∙ search (rules, w.if-eq.ensures))))
-      | else-eq w ↦ (omega (arith, w.weights-is), omega (arith, w.weights-is, weight_other ks d (λ h. (let is-higher : c.kind_in.result ≡ Higher = read ∙ h in search (rules, w.if-eq.ensures, is-higher)))))
-    ]
+    fits_by_from_yields_list weight_of (filter (to_higher ks) directions) c.map.result _
+    (YieldsList-from_map _ weight_of (YieldsList-at c.map.ensures.source (YieldsList-from_filter _ (to_higher ks) (YieldsList-from_slice directions (search rules)) c.filter.ensures.closure (λ x b q k. search (rules, tests)))) c.map.ensures.closure (λ x r q k. search rules))
+    (weighed_small ks)
+
+pub returns : goal.returns
+returns c =
+    let ks = c.args.kinds.now in
+    sum_by_from_yields_List weight_of (filter (to_higher ks) directions) c.map.result c.sum.result c.sum.ensures.ran
+    (YieldsList-from_map _ weight_of (YieldsList-at c.map.ensures.source (YieldsList-from_filter _ (to_higher ks) (YieldsList-from_slice directions (search rules)) c.filter.ensures.closure (λ x b q k. search (rules, tests)))) c.map.ensures.closure (λ x r q k. search rules))
+    ∙ weighed ks
