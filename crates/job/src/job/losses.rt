@@ -37,6 +37,7 @@ impl<P: Plan, Q: Quantiser> Job<P, Q> {
         requires errors { length (lost_below (squares_of P.Plan.meaning self.now) codes.now (self.now.size.rows * self.now.size.columns)) ≤ length errors.old }
         ensures { Listing Q.Tone.Tone.algebra (squares_of P.Plan.meaning self.now) codes.now amounts.now (self.now.size.rows * self.now.size.columns) result places.old places.new errors.old errors.new }
     {
+        // Counted by hand: `.filter(..).enumerate()` was tried, but rattle's `Given` of that loop, in a generic function, is ill-typed.
         let mut count = 0;
         for square in self.size.in_reading_order() {
             if self.is_lost(codes[square.place], square) {
