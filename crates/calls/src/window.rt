@@ -2,6 +2,7 @@
 ghost use Rattle.std.specs.Prelude.{◌≡◌, ◌≤◌};
 ghost use Rattle.calls.specs.Windows.{low_end, high_end};
 
+// A window of one memory and no slice of it: the calls of a list may write over each other, and the promise is over all of the memory.
 // It is cut to the memory where it reaches past the end, so that every length and content of an output occurs.
 #[derive(Clone, Copy)]
 pub struct Window {

@@ -18,6 +18,7 @@ fn pack_at(size: &Size, codes: &[u8], out: &mut [u8]) -> Answer
 pub extern "C" fn sumbelgo_pack(rows: usize, columns: usize, codes: &[u8], out: &mut [u8]) -> Answer
     ensures { Packed rows columns codes.now out.old result out.new }
 {
+    // A match and no `and_then`, for the reason that stands at `make`.
     match Size::new(rows, columns) {
         Ok(size) => pack_at(&size, codes, out),
         Err(refusal) => Answer::from(refusal),

@@ -17,13 +17,14 @@ const MOST_WRITTEN: usize = 4_109;
 fn convert(rt: &HostRuntime) -> anyhow::Result<()> {
     let mut input = Vec::new(rt.alloc());
     let _ = rt.stdin().take(MOST_READ).read_to_end(&mut input)?;
+    // An array, since the library writes into a slice of a known greatest length and answers how much of it counts.
     let mut out = [0u8; MOST_WRITTEN];
     let length = draft(input.as_slice(), &mut out).map_err(|_| anyhow!("no draft"))?;
     rt.stdout().write_all(&out[..length])?;
     Ok(())
 }
 
-// An error is not said, since standard error stays empty too.
+// An error is not said, since standard error stays empty too. `plansheet` ends alike; six lines in two programs are no crate of their own.
 fn main(rt: HostRuntime) -> ExitCode {
     match convert(&rt) {
         Ok(()) => ExitCode::SUCCESS,

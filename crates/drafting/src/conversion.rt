@@ -46,6 +46,7 @@ pub fn draft(input: &[u8], out: &mut [u8]) -> Result<usize, DraftFault>
     if input.len() > MOST_BYTES {
         return Err(DraftFault::InputTooLong);
     }
+    // An array, as in `write_draft`.
     let mut band = [0u8; MOST_SQUARES];
     let size = read_pgm(input, &mut band)?.size;
     write_draft(&size, &band[..size.squares()], out).or(Err(DraftFault::OutputTooShort))

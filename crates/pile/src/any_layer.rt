@@ -4,7 +4,7 @@ ghost use Rattle.pile.specs.LaidLaws.{any_lawful};
 
 use plan::{Layer, Mirror, Plan, Reverse, Shift, Turn};
 
-// One of the four, with what it needs.
+// One of the four, with what it needs. They differ in type, and no function can make a `dyn` and hand it out, so each question is a match.
 #[derive(Clone, Copy)]
 pub enum AnyLayer {
     Shift { rows: u8, columns: u8 },

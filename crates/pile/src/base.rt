@@ -7,7 +7,7 @@ ghost use Rattle.pile.specs.declared.base.Base.TheVariants.{Knuth, Doubling, Tab
 
 use plan::{Doubling, Knuth, Plan, Table};
 
-// Named variants say which plan it is where `Either` in `Either` would not.
+// Named variants say which plan it is where `Either` in `Either` would not. The plans differ in type, so each question is a match.
 #[derive(Clone, Copy)]
 pub enum Base {
     Knuth,

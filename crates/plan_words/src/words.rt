@@ -31,7 +31,7 @@ fn number_in(heap: Global, word: &str, most: usize) -> Result<usize, Fault>
     }
 }
 
-// The same for a byte. A byte is a number up to 255, so that only the cast stands here.
+// The same for a byte. A greater number has been refused, so that the cast keeps the value and `try_from` would be a Result that is always Ok.
 fn byte_in(heap: Global, word: &str) -> Result<u8, Fault> {
     Ok(number_in(heap, word, 255)? as u8)
 }

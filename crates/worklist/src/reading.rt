@@ -52,7 +52,7 @@ fn once(list: &Worklist, told: bool, name: &'static str) -> Result<(), Fault> {
     }
 }
 
-// `plan WORDS..`
+// `plan WORDS..`; this and the two that follow each write a field of their own, and what they share is `once`.
 fn read_plan(heap: Global, list: &mut Worklist, words: &[String]) -> Result<(), Fault> {
     once(list, list.plan.is_some(), "plan")?;
     list.plan = Some(parse_pile(heap, words)?);
@@ -95,7 +95,7 @@ fn read_places(heap: Global, words: &[String]) -> Result<Vec<usize>, Fault> {
     Ok(places)
 }
 
-// The record of a Resume, in one word or in several.
+// The record of a Resume, in one word or in several. Apart from the places, since a word gives several bytes here.
 fn read_record(heap: Global, words: &[String]) -> Result<Vec<u8>, Fault> {
     let mut record = Vec::new(heap);
     for word in words {
