@@ -7,6 +7,5 @@ pub mod Parts
 pub mod ReadBack
 pub mod Refusing
 pub mod Rows
-pub mod Spelling
 pub mod Squares
 pub mod Words

@@ -1,18 +1,12 @@
 -- Words of the input, byte by byte, and the numbers that they spell.
-use Rattle.std.proofs.Common.{◌≡◌, ℕ, suc, sym, ◌+◌, ◌-◌, ◌*◌, ◌<◌, ◌≤◌, Bool, true, false, cond, List, [], ◌∷◌, take, not, Some, None, Option, refl, ap, ◌∙◌, ⊎_elim, arith}
-use Rattle.std.specs.List.{prefix_len}
+use Rattle.std.proofs.Common.{◌≡◌, ℕ, ◌+◌, ◌-◌, ◌*◌, ◌<◌, ◌≤◌, Bool, true, false, cond, List, [], ◌∷◌, length, get_or, drop, Some, None, Option, refl, ap, ◌∙◌, ⊎_elim, arith}
+use Rattle.std.proofs.lemmas.List.{at_drop_more}
 use Rattle.std.proofs.lemmas.Bool.{lt-leb, le-leb, cases_Bool}
 use Rattle.netpbm.specs.Words.{separator, word_from, spelled, capped, digit}
 
--- a word is the bytes that are no separators at the front
-pub word_is : (bytes : List ℕ) → word_from bytes ≡ take (prefix_len (λ b. not (separator b)) bytes) bytes
-word_is [] = refl
-word_is (b ∷ bs) = step (separator b) (word_is bs)
-  where
-    step : (t : Bool) → word_from bs ≡ take (prefix_len (λ b. not (separator b)) bs) bs
-        → cond t [] (b ∷ word_from bs) ≡ take (cond (not t) (1 + prefix_len (λ b. not (separator b)) bs) 0) (b ∷ bs)
-    step true e = refl
-    step false e = let n : 1 + prefix_len (λ b. not (separator b)) bs ≡ suc (prefix_len (λ b. not (separator b)) bs) = omega arith in ap (λ l. b ∷ l) e ∙ ap (λ k. take k (b ∷ bs)) (sym n)
+-- at a byte that is no separator a word goes on
+pub word_more : (xs : List ℕ) (i : ℕ) → i < length xs → separator (get_or xs i 0) ≡ false → word_from (drop i xs) ≡ get_or xs i 0 ∷ word_from (drop (i + 1) xs)
+word_more xs i h w = at_drop_more word_from xs i 0 h ∙ ap (λ b. cond b [] (get_or xs i 0 ∷ word_from (drop (i + 1) xs))) w
 
 pub spelled-digit : (n b : ℕ) (bs : List ℕ) → digit b ≡ true → spelled n (b ∷ bs) ≡ spelled (n * 10 + (b - 48)) bs
 spelled-digit n b bs d = ap (λ t. cond t (spelled (n * 10 + (b - 48)) bs) None) d
@@ -39,3 +33,7 @@ spelled_none n b bs high =
     (λ t. ap capped (spelled-digit n b bs t) ∙ spelled_high (n * 10 + (b - 48)) bs (high t))
     (λ f. ap capped (spelled_other n b bs f))
     (cases_Bool (digit b))
+
+-- so a word that is spelled thus far to v, and goes on with such a byte
+pub word_none : (xs : List ℕ) (i v : ℕ) → i < length xs → separator (get_or xs i 0) ≡ false → (digit (get_or xs i 0) ≡ true → 65535 < v * 10 + (get_or xs i 0 - 48)) → capped (spelled v (word_from (drop i xs))) ≡ None
+word_none xs i v h w high = ap (λ bs. capped (spelled v bs)) (word_more xs i h w) ∙ spelled_none v (get_or xs i 0) (word_from (drop (i + 1) xs)) high

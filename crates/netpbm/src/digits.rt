@@ -9,5 +9,5 @@ pub(crate) fn append_digit(value: u16, byte: u8) -> Option<u16>
     if !byte.is_ascii_digit() {
         return None;
     }
-    value.checked_mul(10)?.checked_add(u16::from(byte - b'0'))
+    u16::try_from(u32::from(value) * 10 + u32::from(byte - b'0')).ok()
 }

@@ -1,5 +1,5 @@
 // The words of a plain PGM, and the numbers that they spell.
-ghost use Rattle.std.specs.Prelude.{◌≡◌, ◌≤◌, ◌&&◌, false, length, drop, Some, MatchResult, nat_le};
+ghost use Rattle.std.specs.Prelude.{◌≡◌, ◌+◌, ◌≤◌, ◌&&◌, false, length, drop, Some, None, MatchResult, MatchOption, IfSome, nat_le};
 ghost use Rattle.netpbm.specs.Words.{start, capped, spelled, word_from, Spells};
 ghost use Rattle.netpbm.specs.Pgm.{told, told_by, number_fault};
 
@@ -33,24 +33,30 @@ fn start(input: &[u8], at: usize) -> usize
         .count()
 }
 
-// The bytes up to the first separator or the end.
-fn word_from(bytes: &[u8]) -> &[u8]
-    ensures value { result.now ≡ word_from bytes.now }
-    ensures bound { length result.now ≤ length bytes.now }
-{
-    let length = bytes
-        .iter()
-        .take_while(|byte| !is_separator(**byte))
-        .count();
-    &bytes[..length]
+// The number that a word spells, and how many bytes that takes.
+#[derive(Clone, Copy)]
+pub struct Spelling {
+    pub value: u16,
+    pub length: usize,
 }
 
-// The number that a word spells; none where it has another byte than digits or is above 65,535.
-fn spelled(word: &[u8]) -> Option<u16>
-    ensures { result ≡ capped (spelled 0 word.now) }
+// The number that the word at the front of the bytes spells; none where it has another byte than digits or is above 65,535. It stops as soon as one
+// of these is seen, so that no word is too long for it, and goes over each byte once.
+fn spelled(bytes: &[u8]) -> Option<Spelling>
+    ensures value { MatchOption result (capped (spelled 0 (word_from bytes.now)) ≡ None) (λ s. (capped (spelled 0 (word_from bytes.now)) ≡ Some s.value) × (s.length ≡ length (word_from bytes.now))) }
+    ensures bound { IfSome result (λ s. s.length ≤ length bytes.now) }
 {
-    word.iter()
-        .try_fold(0, |value, byte| append_digit(value, *byte))
+    let mut value = 0;
+    for (length, byte) in bytes.iter().enumerate() {
+        if is_separator(*byte) {
+            return Some(Spelling { value, length });
+        }
+        value = append_digit(value, *byte)?;
+    }
+    Some(Spelling {
+        value,
+        length: bytes.len(),
+    })
 }
 
 // The input, and how many of its bytes have been read. Magic, head and samples are read through it, one behind the other. It is never moved along,
@@ -85,9 +91,8 @@ impl<'a> Reader<'a> {
         if offset >= self.input.len() {
             return Err(fault);
         }
-        let word = word_from(rest(self.input, offset));
-        let value = spelled(word).ok_or(fault)?;
-        let end = offset + word.len();
+        let Spelling { value, length } = spelled(rest(self.input, offset)).ok_or(fault)?;
+        let end = offset + length;
         Ok(Number { value, offset, end })
     }
 }

@@ -6,5 +6,5 @@ ghost use Rattle.netpbm.specs.Words.{separator};
 pub(crate) fn is_separator(byte: u8) -> bool
     ensures { result ≡ separator byte }
 {
-    matches!(byte, b' ' | b'\t' | b'\r' | b'\n')
+    b" \t\r\n".contains(&byte)
 }

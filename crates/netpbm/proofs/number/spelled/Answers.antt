@@ -1,8 +1,11 @@
-use Rattle.std.proofs.Common.{rules}
-use Rattle.netpbm.proofs.Spelling.{spelt}
+use Rattle.std.proofs.Common.{◌≡◌, None, sym, ◌∙◌, rules, arith}
+use Rattle.netpbm.specs.Words.{capped, spelled, word_from}
+use Rattle.netpbm.proofs.Words.{word_none}
 use Rattle.netpbm.proofs.number.spelled.Goals as goal
 
-pub returns : goal.returns
-returns c =
-    let h = c.try_fold.ensures.ran in
-    spelt _ (λ p x q k. search rules) c.args.word.now c.iter.result h.4.0 c.try_fold.new.self c.try_fold.result h.0 h.1 (h.2, h.3) _ (λ x k. search rules) c.iter.ensures.rest h.4.1 h.4.2 h.5 h.6
+pub returns-in_err-value-clause-value : goal.returns-in_err-value-clause-value
+returns-in_err-value-clause-value c =
+    let xs = c.args.bytes.now in
+    let none : capped (spelled 0 (word_from xs)) ≡ None =
+    sym c.loop-length.invariant.0 ∙ word_none xs c.loop-length.length c.loop-length.value (omega arith) (sym c.if-is_separator.ensures) c.in_err-value.ensures in
+    search rules
