@@ -1,11 +1,24 @@
 -- A total that is folded over the elements of a list that pass a test.
-use Rattle.std.proofs.Common.{◌≡◌, ℕ, suc, ◌+◌, ◌<◌, Bool, cond, List, [], ◌∷◌, length, get_or, filter, sym, refl, ap, ◌∙◌, add-zero, inl, inr, arith}
+use Rattle.std.proofs.Common.{◌≡◌, ℕ, suc, ◌+◌, ◌<◌, Bool, true, false, cond, List, [], ◌∷◌, length, get_or, filter, sym, refl, ap, ◌∙◌, add-zero, inl, inr, arith}
 use Rattle.std.specs.List.{fold}
 use Rattle.std.proofs.lemmas.Bool.{cases_Bool}
 use Rattle.tone.specs.Algebra.{Algebra, Lawful}
 use Rattle.tone.specs.Sums.{total}
 use Rattle.job.proofs.Terms.{term_added, term_skipped}
 use Rattle.tone.proofs.Totals.{total-none}
+
+-- a fold that goes on only where a test is passed is one over what passes it
+module _ {X T : Type 0} (test : X → Bool) (g : T → X → T) where
+  abbrev passing : T → X → T
+  passing s x = cond (test x) (g s x) s
+
+  pub fold_passing : (xs : List X) (z : T) → fold passing z xs ≡ fold g z (filter test xs)
+  fold_passing [] z = refl
+  fold_passing (x ∷ xs) z = step (test x) (fold_passing xs)
+    where
+      step : (t : Bool) → ((y : T) → fold passing y xs ≡ fold g y (filter test xs)) → fold passing (cond t (g z x) z) xs ≡ fold g z (cond t (x ∷ filter test xs) (filter test xs))
+      step true rest = rest (g z x)
+      step false rest = rest z
 
 module _ {X T : Type 0} (a : Algebra T) (l : Lawful a) (test : X → Bool) (value : X → T) (f : ℕ → T) (d : X) where
   -- the term at n is that of x, or zero where x fails the test

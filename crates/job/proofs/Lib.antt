@@ -3,6 +3,7 @@ pub mod Around
 pub mod Attempts
 pub mod Barons
 pub mod Bounded
+pub mod Counted
 pub mod Eight
 mod Fitting
 pub mod Folds
@@ -11,7 +12,6 @@ pub mod Kept
 pub mod KindLists
 pub mod Listed
 pub mod Lower
-mod Mapped
 pub mod Outputs
 pub mod Parting
 pub mod Parts

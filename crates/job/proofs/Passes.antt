@@ -1,11 +1,55 @@
 -- One turn more of Finish: of a row, of a rank, and of all ranks.
-use Rattle.std.proofs.Common.{◌≡◌, ℕ, zero, suc, ◌+◌, ◌*◌, ◌<◌, ◌≤◌, cond, not, ◌&&◌, sym, refl, ap, ◌∙◌, add-zero, add_assoc, add-suc, add-mul, one-mul, add-one, arith}
-use Rattle.std.proofs.lemmas.Bool.{ne_eqb}
+use Rattle.std.proofs.Common.{◌≡◌, ℕ, zero, suc, ◌+◌, ◌*◌, ◌<◌, ◌≤◌, Bool, true, false, cond, not, ◌&&◌, get_or, sym, refl, ap, ◌∙◌, inl, inr, add-zero, add_assoc, add-suc, add-mul, one-mul, add-one, arith}
+use Rattle.std.proofs.lemmas.Bool.{cases_Bool, eq-eqb, ne_eqb}
 use Rattle.diffusion.specs.Bands.{Bands, standing, fixed_in}
 use Rattle.diffusion.specs.Draft.{Setting}
 use Rattle.diffusion.specs.Sets.{every, ready_by}
-use Rattle.diffusion.specs.Sweeps.{pass_in, passed_in, sweep_in, swept_in}
+use Rattle.diffusion.specs.Sweeps.{due_in, pass_in, passed_in, sweep_in, swept_in}
+use Rattle.model.specs.Calls.{Answer, Told, told, fix_at}
+use Rattle.model.specs.Calls.Answer.{Code, Followed, Count, Resumed, Totals, Refused}
 use Rattle.job.specs.Progress.{Progress, progress, and_then, visited, passed_from, passed_below, swept_below}
+use Rattle.job.specs.Single.{attempt}
+use Rattle.job.proofs.Refusing.{refused_fixed, refused_waiting, not_refused}
+
+-- how many squares an attempt fixed
+abbrev pub fixes : {T : Type 0} → Answer T → ℕ
+fixes (Code c) = 1
+fixes (Followed n r) = 0
+fixes (Count n) = 0
+fixes Resumed = 0
+fixes (Totals a b c d) = 0
+fixes (Refused n) = 0
+
+module _ {T : Type 0} (j : Setting T) (s : ℕ) (b : Bands T) (inside : s < j.squares.count) where
+  abbrev fixed : Bool
+  fixed = standing b.codes s
+
+  abbrev ready : Bool
+  ready = ready_by j.squares (standing b.codes) s 8
+
+  -- a square is due at its own rank when it is open and ready
+  due_own : (f r : Bool) → fixed ≡ f → ready ≡ r → due_in j every (j.squares.rank s) b s ≡ not f && r
+  due_own f r is are =
+      ap (λ x. x && (not fixed && ready)) (eq-eqb (j.squares.rank s) (j.squares.rank s) refl) ∙ ap (λ x. not x && ready) is ∙ ap (λ x. not f && x) are
+
+  -- an attempt visits the square at its own rank
+  attempt_visits : progress (fixes (attempt j s b).answer) (attempt j s b).state ≡ visited j (j.squares.rank s) s b
+  attempt_visits =
+      let F = standing b.codes in
+      let code = j.tables.choice (get_or b.amounts s j.algebra.zero) in
+      let after = fixed_in j s b in
+      let tries : ℕ → Progress T = λ n. progress (fixes (fix_at {T = T} n code after b).answer) (fix_at {T = T} n code after b).state in
+      let visits : Bool → Progress T = λ d. progress (cond d 1 0) (cond d after b) in
+      elim (cases_Bool fixed) [
+        | inl f ↦ ap tries (refused_fixed j.squares F s inside f) ∙ sym (ap visits (due_own true ready f refl))
+        | inr f ↦ elim (cases_Bool ready) [
+          | inl r ↦ ap tries (not_refused j.squares F s inside f r) ∙ sym (ap visits (due_own false true f r))
+          | inr r ↦ ap tries (refused_waiting j.squares F s inside f r) ∙ sym (ap visits (due_own false false f r))
+        ]
+      ]
+
+  pub attempted : (a : Answer T) (after : Bands T) → told a after ≡ attempt j s b → progress (fixes a) after ≡ visited j (j.squares.rank s) s b
+  attempted a after is = ap (λ (t : Told T (Bands T)). progress (fixes t.answer) t.state) is ∙ attempt_visits
 
 module _ {T : Type 0} (j : Setting T) (rank : ℕ) where
   -- a square of another rank is left as it is

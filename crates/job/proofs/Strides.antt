@@ -17,7 +17,7 @@ use Rattle.diffusion.specs.Drawings.{plain_drawing, setting_of}
 use Rattle.diffusion.specs.Neighbourhoods.{Neighbourhood}
 use Rattle.diffusion.proofs.Lines.{lays_out}
 use Rattle.job.specs.Patterns.{compared, kind_of, kind_at, PatternOf}
-use Rattle.job.specs.Periods.{First, FirstAt, Lone, Inner}
+use Rattle.job.specs.Periods.{First, FirstAt, Lone, Between}
 use Rattle.job.specs.Progress.{progress, visited, passed_from}
 use Rattle.job.specs.declared.kind.Kind.TheVariants.{Neither}
 use Rattle.job.specs.declared.pattern.Pattern.{Pattern}
@@ -114,37 +114,37 @@ module _ (plan : Ranks) (law : plans.Lawful plan) where
           ];
     }
 
-module _ (rows columns : ℕ) (plan : Ranks) (law : plans.Lawful plan) (row from to : ℕ) (at : Inner rows columns row from to) (on : from ≤ to)
+-- what lies in a row beside two squares of equal rank, at columns with the same ranks, or nothing where there is no such row
+alike : (plan : Ranks) (r : Option ℕ) (a b : ℕ) → a ≡ b → (j k : ℕ) → ((row : ℕ) → plan.rank row j ≡ plan.rank row k) → kind_at plan a r (Some j) ≡ kind_at plan b r (Some k)
+alike plan None a b own j k same = refl
+alike plan (Some row) a b own j k same = ap₂ compared own (same row)
+
+module _ (rows columns : ℕ) (plan : Ranks) (law : plans.Lawful plan) (row from to : ℕ) (inside : row < rows) (at : Between columns from to) (on : from ≤ to)
     (periods : to % plan.column_period ≡ from % plan.column_period) where
   same_kind : (d : ℕ) → kind_of (plain_drawing rows columns plan) (row * columns + from) d ≡ kind_of (plain_drawing rows columns plan) (row * columns + to) d
   same_kind d =
-      let above = at.above in
-      let below = at.below in
       let before = at.before in
       let behind = at.behind in
-      let r = stepped (down d) row in
-      let inside : row < rows = omega arith in
-      let upward = step_inner rows (down d) row above below in
       let own : plan.rank row from ≡ plan.rank row to = same_rank plan law row from to (sym periods) in
-      let other : plan.rank r (stepped (across d) from) ≡ plan.rank r (stepped (across d) to)
-      = same_rank plan law r (stepped (across d) from) (stepped (across d) to)
+      let other : (r : ℕ) → plan.rank r (stepped (across d) from) ≡ plan.rank r (stepped (across d) to)
+      = λ r. same_rank plan law r (stepped (across d) from) (stepped (across d) to)
       (stepped_modulo plan.column_period (across d) from to (some plan law) before (omega arith) (sym periods)) in
+      let r = step (plain rows) (down d) row in
       kind_here rows columns plan law row from d inside (omega arith)
-      ∙ ap₂ (kind_at plan (plan.rank row from)) upward (step_inner columns (across d) from before (omega arith))
-      ∙ ap₂ compared own other
+      ∙ ap (kind_at plan (plan.rank row from) r) (step_inner columns (across d) from before (omega arith))
+      ∙ alike plan r (plan.rank row from) (plan.rank row to) own (stepped (across d) from) (stepped (across d) to) other
       ∙ sym (kind_here rows columns plan law row to d inside (omega arith)
-      ∙ ap₂ (kind_at plan (plan.rank row to)) upward (step_inner columns (across d) to (omega arith) behind))
+      ∙ ap (kind_at plan (plan.rank row to) r) (step_inner columns (across d) to (omega arith) behind))
 
-  -- inner squares of a row that lie whole periods apart have the same pattern
+  -- squares of a row that lie whole periods apart, between its ends, have the same pattern
   pub same_pattern : (p : Pattern) → PatternOf (plain_drawing rows columns plan) (row * columns + from) p → PatternOf (plain_drawing rows columns plan) (row * columns + to) p
   same_pattern p known =
-      let below = at.below in
       let behind = at.behind in
-      let inside : (c : ℕ) → c < columns → row * columns + c < rows * columns
-      = λ c lc. let m = mul-add-lt row columns c rows (omega arith) lc in omega (arith, mul_comm rows columns) in
+      let placed : (c : ℕ) → c < columns → row * columns + c < rows * columns
+      = λ c lc. let m = mul-add-lt row columns c rows inside lc in omega (arith, mul_comm rows columns) in
       let kinds : (d : ℕ) → d < 8 → get_or p.kinds d Neither ≡ kind_of (plain_drawing rows columns plan) (row * columns + to) d = λ d ld. known.kinds d ld ∙ same_kind d in
       let here = known.inside in
-      let there = inside to (omega arith) in
+      let there = placed to (omega arith) in
       record {
         inside = there;
         kinds = kinds;

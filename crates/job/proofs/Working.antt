@@ -8,7 +8,7 @@ use Rattle.plan.specs.Ranks.{Ranks}
 use Rattle.quantiser.specs.Tables.{Tables}
 use Rattle.diffusion.specs.Draft.{Setting}
 use Rattle.diffusion.specs.Drawings.{setting_of}
-use Rattle.model.specs.Replays.{settle, replay_visit, replay_sweep, replay}
+use Rattle.model.specs.Replays.{settle, replay_at, replay_visit, replay_sweep, replay}
 use Rattle.model.proofs.OneMore.{replay_sweep_more, replay_sweep_failed, replay_more, replay_failed}
 use Rattle.job.specs.Worked.{kept_if}
 use Rattle.job.proofs.Standing.{standing-fixed}
@@ -19,19 +19,20 @@ kept_none (Ok u) xs e = absurd (false≢true e)
 kept_none (Err x) xs e = refl
 
 module _ {T : Type 0} (j : Setting T) (cs : List ℕ) (r : ℕ) where
-  -- a standing square whose turn it is, by the code that is chosen for it and the one that is read
-  module _ (s : ℕ) (xs : List T) (turn : j.squares.rank s ≡ r) (inside : s < length cs) (stands : get_or cs s 0 ≡ 255 → ⊥)
-      (code : ℕ) (chosen : code ≡ j.tables.choice (get_or xs s j.algebra.zero)) where
+  -- a standing square that is worked, by the code that is chosen for it and the one that is read
+  module _ (s : ℕ) (xs : List T) (inside : s < length cs) (code : ℕ) (chosen : code ≡ j.tables.choice (get_or xs s j.algebra.zero)) where
     read : get_or cs s 255 ≡ get_or cs s 0
     read = get_or_default cs s 255 0 inside
 
-    pub visit_right : (ys : List T) → code ≡ get_or cs s 0 → ys ≡ settle j s (get_or xs s j.algebra.zero) xs → Some ys ≡ replay_visit j cs r s (Some xs)
-    visit_right ys right is =
-        rw (eq-eqb (j.squares.rank s) r turn, standing-fixed cs s inside stands, eq-eqb (j.tables.choice (get_or xs s j.algebra.zero)) (get_or cs s 255) (sym chosen ∙ right ∙ sym read)) (ap Some is)
+    pub worked_right : (ys : List T) → code ≡ get_or cs s 0 → ys ≡ settle j s (get_or xs s j.algebra.zero) xs → Some ys ≡ replay_at j cs s xs
+    worked_right ys right is = rw (eq-eqb (j.tables.choice (get_or xs s j.algebra.zero)) (get_or cs s 255) (sym chosen ∙ right ∙ sym read)) (ap Some is)
 
-    pub visit_wrong : (code ≡ get_or cs s 0 → ⊥) → None ≡ replay_visit j cs r s (Some xs)
-    visit_wrong wrong =
-        rw (eq-eqb (j.squares.rank s) r turn, standing-fixed cs s inside stands, ne_eqb (j.tables.choice (get_or xs s j.algebra.zero)) (get_or cs s 255) (λ e. wrong (chosen ∙ e ∙ read)))
+    pub worked_wrong : (code ≡ get_or cs s 0 → ⊥) → None ≡ replay_at j cs s xs
+    worked_wrong wrong = rw (ne_eqb (j.tables.choice (get_or xs s j.algebra.zero)) (get_or cs s 255) (λ e. wrong (chosen ∙ e ∙ read))) refl
+
+  -- a standing square whose turn it is
+  pub visit_worked : (s : ℕ) (xs : List T) (o : Option (List T)) → j.squares.rank s ≡ r → s < length cs → (get_or cs s 0 ≡ 255 → ⊥) → o ≡ replay_at j cs s xs → o ≡ replay_visit j cs r s (Some xs)
+  visit_worked s xs o turn inside stands is = rw (eq-eqb (j.squares.rank s) r turn, standing-fixed cs s inside stands) is
 
   -- a square of another rank
   pub visit_other : (s : ℕ) (xs : List T) → (j.squares.rank s ≡ r → ⊥) → Some xs ≡ replay_visit j cs r s (Some xs)

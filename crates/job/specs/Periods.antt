@@ -20,9 +20,7 @@ pub record Lone (plan : Ranks) (rank row first : ℕ) : Type 0 where
   pub has : plan.rank row first ≡ rank
   pub only : (column : ℕ) → plan.rank row column ≡ rank → column % plan.column_period ≡ first
 
--- the squares of a row from one column to another touch no edge
-pub record Inner (rows columns row from to : ℕ) : Type 0 where
-  pub above : 1 ≤ row
-  pub below : row + 1 < rows
+-- the squares of a row from one column to another touch neither its left edge nor its right; above and below all squares of a row are alike
+pub record Between (columns from to : ℕ) : Type 0 where
   pub before : 1 ≤ from
   pub behind : to + 1 < columns

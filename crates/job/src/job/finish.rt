@@ -5,7 +5,7 @@ ghost use Rattle.model.specs.Steps.{finish_on};
 ghost use Rattle.job.specs.Answers.{counted};
 ghost use Rattle.job.specs.Meaning.{squares_of, meant, setting_by, band};
 ghost use Rattle.job.specs.Patterns.{PatternOf};
-ghost use Rattle.job.specs.Periods.{First, FirstAt, Lone, Inner};
+ghost use Rattle.job.specs.Periods.{First, FirstAt, Lone, Between};
 ghost use Rattle.job.specs.Progress.{progress, visited, passed_from, passed_below, swept_below, LowerStand};
 
 use crate::job::Job;
@@ -89,16 +89,17 @@ impl<P: Plan, Q: Quantiser> Job<P, Q> {
         (first + 1..self.plan.column_period()).all(|column| self.plan.rank(row, column) != rank)
     }
 
-    // Whether the squares of a row from one column to another touch no edge.
-    fn is_inner(&self, row: usize, from: usize, to: usize) -> bool
-        requires row { row < self.now.size.rows }
+    // Whether the squares of a row from one column to another touch neither its left edge nor its right. Its top and bottom need not be asked for: a
+    // row has them for all its squares or for none.
+    fn is_between(&self, from: usize, to: usize) -> bool
         requires to { to < self.now.size.columns }
-        ensures { result ≡ true → Inner self.now.size.rows self.now.size.columns row from to }
+        ensures { result ≡ true → Between self.now.size.columns from to }
     {
-        0 < row && row + 1 < self.size.rows && 0 < from && to + 1 < self.size.columns
+        0 < from && to + 1 < self.size.columns
     }
 
-    // Fixes the ready squares of a row whole periods from a column, and answers how many. Inner ones have one pattern, which is gathered once.
+    // Fixes the ready squares of a row whole periods from a column, and answers how many. Those between the two
+    // ends of the row have one pattern, which is gathered once.
     fn stride_row(
         &self,
         amounts: &mut [Q::Tone],
@@ -125,7 +126,7 @@ impl<P: Plan, Q: Quantiser> Job<P, Q> {
             place: start + first,
         });
         for column in (first..self.size.columns).step_by(self.plan.column_period()) {
-            if !self.is_inner(row, known, column) {
+            if !self.is_between(known, column) {
                 known = column;
                 pattern = self.pattern(Square {
                     row,

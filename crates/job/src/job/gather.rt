@@ -12,16 +12,20 @@ use crate::pattern::{Pattern, kind_in};
 use grid::{Direction, Square};
 use plan::Plan;
 use quantiser::Quantiser;
+use std::array;
 
 // The weights of the higher neighbours, added.
 fn weights_of(kinds: &[Kind; 8]) -> u8
     requires { length kinds.now ≡ 8 }
     ensures { result ≡ kinds_weight kinds.now 8 }
 {
+    // A sum over all eight, with 0 for the others, and none behind a filter, whose loop stays a loop: so it becomes eight steps with no branch.
     Direction::ALL
         .iter()
-        .filter(|direction| kind_in(kinds, **direction) == Kind::Higher)
-        .map(|direction| direction.weight())
+        .map(|direction| match kind_in(kinds, *direction) {
+            Kind::Higher => direction.weight(),
+            Kind::Lower | Kind::Neither => 0,
+        })
         .sum()
 }
 
@@ -30,11 +34,13 @@ fn last_of(kinds: &[Kind; 8]) -> Option<Direction>
     requires { length kinds.now ≡ 8 }
     ensures { last_number result ≡ kinds_last kinds.now 8 }
 {
+    // A fold over all eight and no search from the back: where a search ends can not be foretold, and a fold has no branch.
     Direction::ALL
         .iter()
-        .rev()
-        .find(|direction| kind_in(kinds, **direction) == Kind::Higher)
-        .copied()
+        .fold(None, |last, direction| match kind_in(kinds, *direction) {
+            Kind::Higher => Some(*direction),
+            Kind::Lower | Kind::Neither => last,
+        })
 }
 
 impl<P: Plan, Q: Quantiser> Job<P, Q> {
@@ -60,13 +66,13 @@ impl<P: Plan, Q: Quantiser> Job<P, Q> {
         }
     }
 
-    // The pattern of a square.
-    pub(crate) fn pattern(&self, square: Square) -> Pattern
+    // The pattern of a square, gathered from the ranks around it.
+    fn gathered(&self, square: Square) -> Pattern
         requires { Inside self.now.size square }
         ensures { PatternOf (squares_of P.Plan.meaning self.now) square.place result }
     {
         let own = self.plan.rank(square.row, square.column);
-        let kinds = Direction::ALL.map(|direction| self.kind(square, own, direction));
+        let kinds = array::from_fn(|at| self.kind(square, own, Direction::ALL[at]));
         let weights = weights_of(&kinds);
         let last = last_of(&kinds);
         Pattern {
@@ -74,5 +80,16 @@ impl<P: Plan, Q: Quantiser> Job<P, Q> {
             weights,
             last,
         }
+    }
+
+    // The same. The square is taken apart and one of its own lent on: else a loop over squares would have to write down each, where it
+    // keeps them in registers so.
+    #[inline(always)]
+    pub(crate) fn pattern(&self, square: Square) -> Pattern
+        requires { Inside self.now.size square }
+        ensures { PatternOf (squares_of P.Plan.meaning self.now) square.place result }
+    {
+        let Square { row, column, place } = square;
+        self.gathered(Square { row, column, place })
     }
 }

@@ -19,11 +19,13 @@ fn sum_open<T: Tone>(amounts: &[T], codes: &[u8]) -> T
     requires { length codes.now ≡ length amounts.now }
     ensures { result ≡ total_of T.algebra (open_at T.algebra codes.now amounts.now) (length amounts.now) }
 {
+    // No filter before the fold, here and in the next: behind one the loop has two ends, and several tones can not be added at a step.
     amounts
         .iter()
         .zip(codes)
-        .filter(|(_, code)| **code == OPEN)
-        .fold(T::zero(), |sum, (amount, _)| sum.sum(*amount))
+        .fold(T::zero(), |sum, (amount, code)| {
+            if *code == OPEN { sum.sum(*amount) } else { sum }
+        })
 }
 
 impl<P: Plan, Q: Quantiser> Job<P, Q> {
@@ -31,10 +33,13 @@ impl<P: Plan, Q: Quantiser> Job<P, Q> {
     fn sum_outputs(&self, codes: &[u8]) -> Q::Tone
         ensures { result ≡ total_of Q.Tone.Tone.algebra (output_at Q.Tone.Tone.algebra (Q.Quantiser.tables self.now.quantiser) codes.now) (length codes.now) }
     {
-        codes.iter().filter(|code| **code != OPEN).fold(
-            Q::Tone::zero(),
-            |sum, code| sum.sum(self.quantiser.output(*code)),
-        )
+        codes.iter().fold(Q::Tone::zero(), |sum, code| {
+            if *code != OPEN {
+                sum.sum(self.quantiser.output(*code))
+            } else {
+                sum
+            }
+        })
     }
 
     // The errors of the fixed barons, added.

@@ -1,7 +1,7 @@
 use Rattle.std.proofs.Common.{◌<◌, length, sym, ◌∙◌, arith}
 use Rattle.job.specs.Meaning.{setting_by}
 use Rattle.job.proofs.Reading.{place-below, square-rank}
-use Rattle.job.proofs.Working.{visit_other, visit_right, visit_wrong}
+use Rattle.job.proofs.Working.{visit_other, visit_worked}
 use Rattle.job.proofs.job.Job.replay_square.Goals as goal
 
 pub returns-then-rank-clause-kept : goal.returns-then-rank-clause-kept
@@ -11,20 +11,11 @@ returns-then-rank-clause-kept g c =
     visit_other (setting_by g.Q.Tone.Tone.algebra g.P.Plan.meaning g.Q.Quantiser.tables j) c.args.codes.now c.args.rank c.args.square.place c.args.amounts.now
     (λ e. c.if-rank.true (c.rank.ensures ∙ sym rank ∙ e))
 
-pub returns-then-quantise-written-clause-kept : goal.returns-then-quantise-written-clause-kept
-returns-then-quantise-written-clause-kept g c =
-    let j = c.args.self.now in
-    let s = c.args.square.place in
-    let inside : s < length c.args.codes.now = omega (arith, place-below j.size c.args.square c.requires.square) in
-    let rank = square-rank j.size (g.P.Plan.meaning j.plan) (g.met.P.Plan.lawful j.plan) c.args.square c.requires.square in
-    visit_wrong (setting_by g.Q.Tone.Tone.algebra g.P.Plan.meaning g.Q.Quantiser.tables j) c.args.codes.now c.args.rank s c.args.amounts.now
-    (rank ∙ sym c.rank.ensures ∙ c.if-rank.false) inside c.if-written.false c.quantise.result c.quantise.ensures.code c.if-quantise-written.true
-
 pub returns-clause-kept : goal.returns-clause-kept
 returns-clause-kept g c =
     let j = c.args.self.now in
     let s = c.args.square.place in
     let inside : s < length c.args.codes.now = omega (arith, place-below j.size c.args.square c.requires.square) in
     let rank = square-rank j.size (g.P.Plan.meaning j.plan) (g.met.P.Plan.lawful j.plan) c.args.square c.requires.square in
-    visit_right (setting_by g.Q.Tone.Tone.algebra g.P.Plan.meaning g.Q.Quantiser.tables j) c.args.codes.now c.args.rank s c.args.amounts.now
-    (rank ∙ sym c.rank.ensures ∙ c.if-rank.false) inside c.if-written.false c.quantise.result c.quantise.ensures.code _ c.if-quantise-written.false c.quantise.ensures.after
+    visit_worked (setting_by g.Q.Tone.Tone.algebra g.P.Plan.meaning g.Q.Quantiser.tables j) c.args.codes.now c.args.rank s c.args.amounts.now _
+    (rank ∙ sym c.rank.ensures ∙ c.if-rank.false) inside c.if-codes-square.false c.replay_standing.ensures.kept

@@ -6,7 +6,7 @@ use Rattle.job.specs.Patterns.{PatternOf}
 use Rattle.job.proofs.Lower.{at_rank, lower_from}
 use Rattle.job.proofs.Strides.{same_rank, same_pattern, same_place, stride_none, stride_more}
 use Rattle.job.proofs.job.Job.stride_row.Goals as goal
-use Rattle.job.proofs.job.Job.stride_row.Goals.{then-not-is_inner, else-not-is_inner}
+use Rattle.job.proofs.job.Job.stride_row.Goals.{then-not-is_between, else-not-is_between}
 
 pub loop-column-init : goal.loop-column-init
 loop-column-init g c =
@@ -48,10 +48,10 @@ visit-count-requires g c =
           (lower_from j c.args.rank a k c.loop-column.count (band c.args.codes.now c.args.amounts.now) (band c.loop-column.codes c.loop-column.amounts) so_far c.requires.lower);
       amounts = omega (arith, c.requires.amounts);
       codes = omega (arith, c.requires.codes);
-      pattern = elim c.if-not-is_inner.branch [
-        | then-not-is_inner w ↦ same_place squares s s w.pattern-pattern-then-not-is_inner.result c.if-not-is_inner.pattern refl w.pattern-is w.pattern-pattern-then-not-is_inner.ensures
-        | else-not-is_inner w ↦ same_place squares s s c.loop-column.pattern c.if-not-is_inner.pattern refl w.pattern-is
-            (same_pattern rows columns (g.P.Plan.meaning job.plan) (g.met.P.Plan.lawful job.plan) c.args.row c.loop-column.known k (w.if-not-is_inner.ensures refl)
+      pattern = elim c.if-not-is_between.branch [
+        | then-not-is_between w ↦ same_place squares s s w.pattern-pattern-then-not-is_between.result c.if-not-is_between.pattern refl w.pattern-is w.pattern-pattern-then-not-is_between.ensures
+        | else-not-is_between w ↦ same_place squares s s c.loop-column.pattern c.if-not-is_between.pattern refl w.pattern-is
+            (same_pattern rows columns (g.P.Plan.meaning job.plan) (g.met.P.Plan.lawful job.plan) c.args.row c.loop-column.known k c.requires.row (w.if-not-is_between.ensures refl)
             inv.0 (inv.2 ∙ sym inv.1) c.loop-column.pattern inv.3)
       ];
     }
@@ -70,19 +70,19 @@ loop-column-preserved g c =
     let inv = c.loop-column.invariant in
     let k = c.loop-column.column in
     let a = c.args.row * columns in
-    let known = c.if-not-is_inner.known in
-    let pattern = c.if-not-is_inner.pattern in
+    let known = c.if-not-is_between.known in
+    let pattern = c.if-not-is_between.pattern in
     let step = c.column_period-column-step.ensures in
     let least = law.column_period.least in
     let few = c.visit-count.ensures.few in
     let held : (known ≤ k) × (known % q ≡ c.args.first) × PatternOf squares (a + known) pattern
-    = elim c.if-not-is_inner.branch [
-      | then-not-is_inner w ↦ (
+    = elim c.if-not-is_between.branch [
+      | then-not-is_between w ↦ (
         omega (arith, w.known-is),
         ap (λ n. n % q) w.known-is ∙ inv.2,
-        same_place squares (a + k) (a + known) w.pattern-pattern-then-not-is_inner.result pattern (ap (λ n. a + n) w.known-is) w.pattern-is w.pattern-pattern-then-not-is_inner.ensures,
+        same_place squares (a + k) (a + known) w.pattern-pattern-then-not-is_between.result pattern (ap (λ n. a + n) w.known-is) w.pattern-is w.pattern-pattern-then-not-is_between.ensures,
       )
-      | else-not-is_inner w ↦ (
+      | else-not-is_between w ↦ (
         omega (arith, w.known-is, inv.0),
         ap (λ n. n % q) w.known-is ∙ inv.1,
         same_place squares (a + c.loop-column.known) (a + known) c.loop-column.pattern pattern (ap (λ n. a + n) w.known-is) w.pattern-is inv.3,
@@ -101,8 +101,8 @@ loop-column-preserved g c =
       λ n low high short. more n (omega (arith, low, step)) (omega (arith, high, step)) short,
     )
 
-pub returns-after-not-is_inner-clause-after : goal.returns-after-not-is_inner-clause-after
-returns-after-not-is_inner-clause-after g c =
+pub returns-after-not-is_between-clause-after : goal.returns-after-not-is_between-clause-after
+returns-after-not-is_between-clause-after g c =
     let job = c.args.self.now in
     let columns = job.size.columns in
     let plan = g.P.Plan.meaning job.plan in

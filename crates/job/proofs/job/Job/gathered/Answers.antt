@@ -6,11 +6,10 @@ use Rattle.job.specs.Meaning.{squares_of}
 use Rattle.job.specs.Patterns.{kind_of, kind_at}
 use Rattle.job.specs.declared.kind.Kind.{Kind}
 use Rattle.job.specs.declared.kind.Kind.TheVariants.{Neither}
-use Rattle.grid.specs.declared.direction.Direction.TheVariants.{N}
-use Rattle.job.proofs.Eight.{directions, numbered}
-use Rattle.job.proofs.Mapped.{each_mapped}
+use Rattle.job.proofs.Eight.{nth, numbered}
+use Rattle.plan.proofs.Made.{each_made}
 use Rattle.job.proofs.Around.{kind_here, weights-told, last-told}
-use Rattle.job.proofs.job.Job.pattern.Goals as goal
+use Rattle.job.proofs.job.Job.gathered.Goals as goal
 
 pub returns : goal.returns
 returns g c =
@@ -25,7 +24,7 @@ returns g c =
     let s = c.args.square.place in
     let at = c.requires.place in
     let inside : s < rows * columns = omega (arith, at, mul-add-lt row columns column rows c.requires.row c.requires.column, mul_comm rows columns) in
-    let ks = c.map-kinds.result in
+    let ks = c.from_fn-kinds.result in
     let one : (d : ℕ) (k : Kind) → k ≡ kind_at plan c.rank-own.result (step (plain rows) (down d) row) (step (plain columns) (across d) column) → k ≡ kind_of squares s d
     = λ d k e. e ∙ ap (λ own. kind_at plan own (step (plain rows) (down d) row) (step (plain columns) (across d) column)) c.rank-own.ensures
     ∙ sym (kind_here rows columns plan law row column d c.requires.row c.requires.column) ∙ ap (λ t. kind_of squares t d) (sym at) in
@@ -33,8 +32,8 @@ returns g c =
     = λ d low.
     one d _ (
     subst (λ n. get_or ks d Neither ≡ kind_at plan c.rank-own.result (step (plain rows) (down n) row) (step (plain columns) (across n) column)) (numbered d low)
-    (each_mapped _ (λ direction k. k ≡ kind_at plan c.rank-own.result (step (plain rows) (down (number_of direction)) row) (step (plain columns) (across (number_of direction)) column))
-    _ (λ x y q k. search rules) directions ks 0 8 c.map-kinds.ensures.items.each d N Neither (omega arith) low)
+    (each_made _ (λ n k. k ≡ kind_at plan c.rank-own.result (step (plain rows) (down (number_of (nth n))) row) (step (plain columns) (across (number_of (nth n))) column))
+    _ (λ i y q k. search rules) ks 0 8 c.from_fn-kinds.ensures.items.each d Neither (omega arith) low)
     ) in
     record {
       inside = inside;
