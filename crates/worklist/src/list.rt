@@ -25,6 +25,8 @@ pub struct Worklist {
     pub size: Option<(usize, usize)>,
     // The drawing.
     pub tones: Vec<Grey>,
-    // The calls of each job, one list for each.
-    pub jobs: Vec<Vec<Request>>,
+    // The calls of all jobs in one list, so that a short job costs no list of its own.
+    pub requests: Vec<Request>,
+    // How many of these calls each job has, behind those of the jobs before it.
+    pub jobs: Vec<usize>,
 }

@@ -41,11 +41,13 @@ fn read_all(heap: Global, input: BufReader<Stdin>) -> Result<Worklist, Misread> 
     Ok(list)
 }
 
-// Works each job in turn and prints it.
+// Works each job in turn, on the calls behind those of the job before it, and prints it.
 fn work_all(rt: &HostRuntime, list: &Worklist) -> anyhow::Result<()> {
     let (rows, columns) = list.size.unwrap_or((0, 0));
-    for requests in &list.jobs {
-        let outcome = work_job(rt.alloc(), list, rows, columns, requests.as_slice())?;
+    let mut rest = list.requests.as_slice();
+    for calls in &list.jobs {
+        let requests = rest.split_off(..*calls).unwrap_or(&[]);
+        let outcome = work_job(rt.alloc(), list, rows, columns, requests)?;
         print_outcome(rt, rows, columns, &outcome)?;
     }
     Ok(())

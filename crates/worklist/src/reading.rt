@@ -13,6 +13,7 @@ pub fn nothing_told(heap: Global) -> Worklist {
         threshold: None,
         size: None,
         tones: Vec::new(heap),
+        requests: Vec::new(heap),
         jobs: Vec::new(heap),
     }
 }
@@ -86,21 +87,23 @@ fn read_tones(heap: Global, list: &mut Worklist, words: &[String]) -> Result<(),
     Ok(())
 }
 
-// The places of a Follow.
+// The places of a Follow, in no more memory than they need, since the list keeps it to the end.
 fn read_places(heap: Global, words: &[String]) -> Result<Vec<usize>, Fault> {
-    let mut places = Vec::new(heap);
+    let mut places = Vec::with_capacity(heap, words.len())?;
     for word in words {
         places.push(number(heap, word.as_str())?)?;
     }
     Ok(places)
 }
 
-// The record of a Resume, in one word or in several. Apart from the places, since a word gives several bytes here.
+// The record of a Resume, in one word or in several, and in no more memory than it needs. Apart from the places, since
+// a word gives several bytes here.
 fn read_record(heap: Global, words: &[String]) -> Result<Vec<u8>, Fault> {
     let mut record = Vec::new(heap);
     for word in words {
         record.extend_from_slice(bytes(heap, word.as_str())?.as_slice())?;
     }
+    record.shrink_to_fit();
     Ok(record)
 }
 
@@ -133,16 +136,16 @@ fn parse_request(heap: Global, name: &str, words: &[String]) -> Result<Request, 
     }
 }
 
-// Begins a job.
-fn begin(heap: Global, list: &mut Worklist) -> Result<(), Fault> {
+// Begins a job, with no calls yet.
+fn begin(list: &mut Worklist) -> Result<(), Fault> {
     if list.size.is_none() {
         return Err(Fault::NoSize);
     }
-    list.jobs.push(Vec::new(heap))?;
+    list.jobs.push(0)?;
     Ok(())
 }
 
-// A call, on the first job where none was opened.
+// A call, on the job opened last, or on the first where none was opened.
 fn read_request(
     heap: Global,
     list: &mut Worklist,
@@ -151,10 +154,11 @@ fn read_request(
 ) -> Result<(), Fault> {
     let request = parse_request(heap, name, words)?;
     if list.jobs.is_empty() {
-        begin(heap, list)?;
+        begin(list)?;
     }
-    if let Some(requests) = list.jobs.last_mut() {
-        requests.push(request)?;
+    list.requests.push(request)?;
+    if let Some(calls) = list.jobs.last_mut() {
+        *calls = calls.saturating_add(1);
     }
     Ok(())
 }
@@ -175,7 +179,7 @@ pub fn read_line(heap: Global, list: &mut Worklist, line: &str) -> Result<(), Fa
         "tones" => read_tones(heap, list, words),
         "open" => {
             no_words(words, "open")?;
-            begin(heap, list)
+            begin(list)
         }
         other => read_request(heap, list, other, words),
     }
