@@ -16,7 +16,7 @@ pub fn kind_in(kinds: &[Kind; 8], direction: Direction) -> Kind
 }
 
 // The kinds by direction, the weights of the higher ones added, and the last direction of a higher one, if there is one.
-// It keeps no place, so that one pattern serves all inner squares of a row.
+// It keeps no place, so that one pattern serves all squares of a row between its ends.
 #[derive(Clone, Copy)]
 pub struct Pattern {
     pub kinds: [Kind; 8],

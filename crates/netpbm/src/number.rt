@@ -41,7 +41,7 @@ pub struct Spelling {
 }
 
 // The number that the word at the front of the bytes spells; none where it has another byte than digits or is above 65,535. It stops as soon as one
-// of these is seen, so that no word is too long for it, and goes over each byte once.
+// of these is seen, so that what follows costs nothing, and goes over each byte once.
 fn spelled(bytes: &[u8]) -> Option<Spelling>
     ensures value { MatchOption result (capped (spelled 0 (word_from bytes.now)) ≡ None) (λ s. (capped (spelled 0 (word_from bytes.now)) ≡ Some s.value) × (s.length ≡ length (word_from bytes.now))) }
     ensures bound { IfSome result (λ s. s.length ≤ length bytes.now) }

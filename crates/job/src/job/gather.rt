@@ -82,7 +82,7 @@ impl<P: Plan, Q: Quantiser> Job<P, Q> {
         }
     }
 
-    // The same. The square is taken apart and one of its own lent on: else a loop over squares would have to write down each, where it
+    // The same. The square is taken apart and one of its own handed on: else a loop over squares would have to write down each, where it
     // keeps them in registers so.
     #[inline(always)]
     pub(crate) fn pattern(&self, square: Square) -> Pattern

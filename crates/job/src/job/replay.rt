@@ -57,7 +57,7 @@ impl<P: Plan, Q: Quantiser> Job<P, Q> {
         if self.plan.rank(square.row, square.column) != rank {
             return Ok(());
         }
-        // A square of its own is lent on, so that a loop over squares keeps theirs in registers.
+        // A square of its own is handed on, so that a loop over squares keeps theirs in registers.
         let Square { row, column, place } = square;
         self.replay_standing(amounts, codes, Square { row, column, place })
     }
