@@ -1,15 +1,16 @@
 // What the input tells: what every job is opened with, and the calls on each.
 use pile::Pile;
+use smallvec::SmallVec;
 use tone::Grey;
 
-// A call as its line tells it. It owns its places and bytes, and has no windows yet.
+// A call as its line tells it. It owns its places and bytes, short ones in itself, and has no windows yet.
 #[derive(Drop)]
 pub enum Request {
     Fix(usize, usize),
-    Follow(Vec<usize>),
+    Follow(SmallVec<usize, 2>),
     Finish,
     Halt,
-    Resume(Vec<u8>),
+    Resume(SmallVec<u8, 16>),
     Tally,
     Losses,
 }

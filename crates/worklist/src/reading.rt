@@ -3,6 +3,7 @@ use crate::fault::Fault;
 use crate::list::{Request, Worklist};
 use crate::numbers::{bytes, number, signed, two_numbers};
 use plan_words::parse_pile;
+use smallvec::SmallVec;
 use std::alloc::{AllocError, Global};
 use tone::Grey;
 
@@ -87,19 +88,18 @@ fn read_tones(heap: Global, list: &mut Worklist, words: &[String]) -> Result<(),
     Ok(())
 }
 
-// The places of a Follow, in no more memory than they need, since the list keeps it to the end.
-fn read_places(heap: Global, words: &[String]) -> Result<Vec<usize>, Fault> {
-    let mut places = Vec::with_capacity(heap, words.len())?;
+// The places of a Follow. Two take no memory beside the request, and more no more than they need.
+fn read_places(heap: Global, words: &[String]) -> Result<SmallVec<usize, 2>, Fault> {
+    let mut places = SmallVec::with_capacity(heap, words.len())?;
     for word in words {
         places.push(number(heap, word.as_str())?)?;
     }
     Ok(places)
 }
 
-// The record of a Resume, in one word or in several, and in no more memory than it needs. Apart from the places, since
-// a word gives several bytes here.
-fn read_record(heap: Global, words: &[String]) -> Result<Vec<u8>, Fault> {
-    let mut record = Vec::new(heap);
+// The record of a Resume, in one word or in several. Apart from the places, since a word gives several bytes here.
+fn read_record(heap: Global, words: &[String]) -> Result<SmallVec<u8, 16>, Fault> {
+    let mut record = SmallVec::new(heap);
     for word in words {
         record.extend_from_slice(bytes(heap, word.as_str())?.as_slice())?;
     }
